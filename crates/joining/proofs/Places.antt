@@ -1,0 +1,124 @@
+-- Rows keep the laws of the elements; and what the two passes over a row come to.
+use mathlib.Core.Path.{_≡_, refl, sym, ap, ap₂, subst, _∙_}
+use mathlib.Core.Bool.{Bool, true, false}
+use mathlib.Core.List.{List, [], _∷_, _++_}
+use Prim.Native.Nat.{ℕ, zero, suc, _+_, _<_}
+use native.Mathlib.Omega.{arith}
+use lib.ListN.{length, replicate, take, drop, getD, set}
+use Rattle.std.specs.Options.{isSome, valueOr}
+use Rattle.std.specs.declared.option.Option.{Option}
+use Rattle.std.specs.declared.option.Option.the-variants.{Some, None}
+use Rattle.std.proofs.shelf.Lists.{drop-more, set-at, length-take-le, append-assoc, take-more}
+use Rattle.joining.specs.Laws.{Commutes, Groups, Leaves}
+use Rattle.joining.specs.Rows.{before, rows, over, Rows-keep-laws}
+
+module _ {X : Type 0} where
+  -- a row that was put together has both parts
+  pub parted : (o : Option X) (p : Option (List X)) (r : List X) → before o p ≡ Some r
+      → (x : X) × (xs : List X) × (o ≡ Some x) × (p ≡ Some xs) × (r ≡ x ∷ xs)
+  parted (Some x) (Some xs) r e = (x, xs, refl, refl, cc)
+  parted (Some x) None r e = absurd (let z : _≡_ {A = ℕ} 0 1 = cc in omega arith)
+  parted None p r e = absurd (let z : _≡_ {A = ℕ} 0 1 = cc in omega arith)
+
+  both-parts : (o : Option X) (p : Option (List X)) (x : X) (xs : List X) → o ≡ Some x → p ≡ Some xs → before o p ≡ Some (x ∷ xs)
+  both-parts o p x xs e f = rw (e, f) refl
+
+  before-test : (o : Option X) (p : Option (List X)) → isSome o ≡ true → isSome p ≡ isSome (before o p)
+  before-test (Some x) (Some xs) e = refl
+  before-test (Some x) None e = refl
+  before-test None p e = absurd (let z : _≡_ {A = ℕ} 0 1 = cc in omega arith)
+
+  before-none : (o : Option X) (p : Option (List X)) → isSome o ≡ false → isSome (before o p) ≡ false
+  before-none (Some x) p e = absurd (let z : _≡_ {A = ℕ} 0 1 = cc in omega arith)
+  before-none None p e = refl
+
+  module _ (join : X → X → Option X) where
+    pub rows-commute : Commutes join → Commutes (rows join)
+    rows-commute commuting [] [] r e = e
+    rows-commute commuting [] (y ∷ ys) r e = absurd (let z : _≡_ {A = ℕ} 0 1 = cc in omega arith)
+    rows-commute commuting (x ∷ xs) [] r e = absurd (let z : _≡_ {A = ℕ} 0 1 = cc in omega arith)
+    rows-commute commuting (x ∷ xs) (y ∷ ys) r e =
+        let p = parted (join x y) (rows join xs ys) r e in
+        both-parts (join y x) (rows join ys xs) (p .0) (p .1)
+        (commuting x y (p .0) (p .2))
+        (rows-commute commuting xs ys (p .1) (p .3))
+        ∙ ap (λ q. Some q) (sym (p .4))
+
+    pub rows-group : Groups join → Groups (rows join)
+    rows-group grouping [] [] [] ab abc p q =
+        let e : ab ≡ [] = cc in ([], refl, rw e at q)
+    rows-group grouping [] [] (z ∷ zs) ab abc p q =
+        let e : ab ≡ [] = cc in
+        let f : rows join [] (z ∷ zs) ≡ Some abc = rw e at q in
+        absurd (let b : _≡_ {A = ℕ} 0 1 = cc in omega arith)
+    rows-group grouping [] (y ∷ ys) zs ab abc p q = absurd (let b : _≡_ {A = ℕ} 0 1 = cc in omega arith)
+    rows-group grouping (x ∷ xs) [] zs ab abc p q = absurd (let b : _≡_ {A = ℕ} 0 1 = cc in omega arith)
+    rows-group grouping (x ∷ xs) (y ∷ ys) [] ab abc p q =
+        let m = parted (join x y) (rows join xs ys) ab p in
+        let f : rows join (m .0 ∷ m .1) [] ≡ Some abc = subst (λ r. rows join r [] ≡ Some abc) (m .4) q in
+        absurd (let b : _≡_ {A = ℕ} 0 1 = cc in omega arith)
+    rows-group grouping (x ∷ xs) (y ∷ ys) (z ∷ zs) ab abc p q =
+        let m = parted (join x y) (rows join xs ys) ab p in
+        let f : rows join (m .0 ∷ m .1) (z ∷ zs) ≡ Some abc = subst (λ r. rows join r (z ∷ zs) ≡ Some abc) (m .4) q in
+        let n = parted (join (m .0) z) (rows join (m .1) zs) abc f in
+        let here = grouping x y z (m .0) (n .0) (m .2) (n .2) in
+        let rest = rows-group grouping xs ys zs (m .1) (n .1) (m .3) (n .3) in (
+          here .0 ∷ rest .0,
+          both-parts (join y z) (rows join ys zs) (here .0) (rest .0) (here .1) (rest .1),
+          both-parts (join x (here .0)) (rows join xs (rest .0)) (n .0) (n .1) (here .2) (rest .2) ∙ ap (λ r. Some r) (sym (n .4)),
+        )
+
+    pub rows-leave : (none : X) → Leaves join none → (xs : List X) → rows join (replicate (length xs) none) xs ≡ Some xs
+    rows-leave none leaving [] = refl
+    rows-leave none leaving (x ∷ xs) =
+        both-parts (join none x) (rows join (replicate (length xs) none) xs) x xs (leaving x) (rows-leave none leaving xs)
+
+    -- the first of the places from i on, and those after it
+    at-place : (xs ys : List X) (i : ℕ) (d e : X) → i < length xs → i < length ys
+        → rows join (drop i xs) (drop i ys) ≡ before (join (getD xs i d) (getD ys i e)) (rows join (drop (i + 1) xs) (drop (i + 1) ys))
+    at-place xs ys i d e hx hy = ap₂ (rows join) (drop-more xs i d hx) (drop-more ys i e hy)
+
+    -- where a place joins, the rows from there on join exactly if the rows behind it do
+    pub rows-join-more : (xs ys : List X) (i : ℕ) (d e : X) → i < length xs → i < length ys
+        → isSome (join (getD xs i d) (getD ys i e)) ≡ true
+        → isSome (rows join (drop i xs) (drop i ys)) ≡ isSome (rows join (drop (i + 1) xs) (drop (i + 1) ys))
+    rows-join-more xs ys i d e hx hy joins =
+        ap isSome (at-place xs ys i d e hx hy)
+        ∙ sym (before-test (join (getD xs i d) (getD ys i e)) (rows join (drop (i + 1) xs) (drop (i + 1) ys)) joins)
+
+    pub rows-clash : (xs ys : List X) (i : ℕ) (d e : X) → i < length xs → i < length ys
+        → isSome (join (getD xs i d) (getD ys i e)) ≡ false
+        → isSome (rows join (drop i xs) (drop i ys)) ≡ false
+    rows-clash xs ys i d e hx hy clashes =
+        ap isSome (at-place xs ys i d e hx hy)
+        ∙ before-none (join (getD xs i d) (getD ys i e)) (rows join (drop (i + 1) xs) (drop (i + 1) ys)) clashes
+
+    -- where the rows join, what is written over the first is the join
+    pub over-joined : (xs ys r : List X) → rows join xs ys ≡ Some r → over join xs ys ≡ r
+    over-joined [] [] r e = cc
+    over-joined [] (y ∷ ys) r e = absurd (let z : _≡_ {A = ℕ} 0 1 = cc in omega arith)
+    over-joined (x ∷ xs) [] r e = absurd (let z : _≡_ {A = ℕ} 0 1 = cc in omega arith)
+    over-joined (x ∷ xs) (y ∷ ys) r e =
+        let p = parted (join x y) (rows join xs ys) r e in
+        ap₂ (λ a rest. a ∷ rest) (ap (λ o. valueOr o x) (p .2)) (over-joined xs ys (p .1) (p .3)) ∙ sym (p .4)
+
+    pub length-over : (xs ys : List X) → length (over join xs ys) ≡ length xs
+    length-over [] ys = refl
+    length-over (x ∷ xs) [] = refl
+    length-over (x ∷ xs) (y ∷ ys) = ap suc (length-over xs ys)
+
+    pub over-at : (xs ys : List X) (i : ℕ) (d e f : X) → i < length xs → i < length ys
+        → getD (over join xs ys) i f ≡ valueOr (join (getD xs i d) (getD ys i e)) (getD xs i d)
+    over-at [] ys i d e f hx hy = absurd (omega arith)
+    over-at (x ∷ xs) [] i d e f hx hy = absurd (omega arith)
+    over-at (x ∷ xs) (y ∷ ys) zero d e f hx hy = refl
+    over-at (x ∷ xs) (y ∷ ys) (suc i) d e f hx hy = over-at xs ys i d e f (omega arith) (omega arith)
+
+  -- a row that is written anew up to i, one place on
+  pub anew-more : (new old : List X) (i : ℕ) (v : X) → length new ≡ length old → i < length old → v ≡ getD new i v
+      → set (take i new ++ drop i old) i v ≡ take (i + 1) new ++ drop (i + 1) old
+  anew-more new old i v same in′ is =
+      ap (λ rest. set (take i new ++ rest) i v) (drop-more old i v in′)
+      ∙ set-at (take i new) (getD old i v) (drop (i + 1) old) v i (length-take-le i new (omega arith))
+      ∙ sym (append-assoc (take i new) (v ∷ []) (drop (i + 1) old))
+      ∙ ap (λ front. front ++ drop (i + 1) old) (ap (λ w. take i new ++ w ∷ []) is ∙ sym (take-more new i v (omega arith)))

@@ -1,0 +1,5 @@
+pub mod Geometry
+pub mod Masks
+pub mod State
+pub mod Calls
+pub mod Mesh
