@@ -1,0 +1,80 @@
+-- The first n places, those of them that pass a test, and the steps of a loop over them.
+use mathlib.Core.Path.{_≡_, refl, sym, ap, _∙_}
+use mathlib.Core.Bool.{Bool, true, false, cond}
+use mathlib.Core.List.{List, [], _∷_, _++_}
+use Prim.Native.Nat.{ℕ, zero, suc, _+_, _-_, _<_, _≤_}
+use native.Mathlib.Nat.{add-zero, add-suc}
+use native.Mathlib.Numerals.{add-one}
+use native.Mathlib.Omega.{arith}
+use lib.ListN.{length, getD, length-append}
+use Rattle.std.specs.Iters.{counting, folded}
+use Rattle.std.specs.Runs.{kept-by}
+use Rattle.std.proofs.shelf.Elements.{kept-by-append}
+use Rattle.std.proofs.shelf.Sums.{folded-push}
+use Rattle.std.specs.declared.option.Option.{Option}
+use Rattle.std.specs.declared.option.Option.the-variants.{Some, None}
+use Rattle.model.specs.declared.Row.{Row}
+use Rattle.model.specs.Geometry.{Geometry}
+use Rattle.model.specs.Calls.{tally, better, best-below}
+
+-- one place more at the end
+pub counting-more : (a n : ℕ) → counting a (suc n) ≡ counting a n ++ ((a + n) ∷ [])
+counting-more a zero = ap (λ k. k ∷ []) (sym (add-zero a))
+counting-more a (suc n) =
+    ap (λ rest. a ∷ rest) (counting-more (a + 1) n ∙ ap (λ k. counting (a + 1) n ++ (k ∷ [])) (omega arith))
+
+counting-push : (n : ℕ) → counting 0 (n + 1) ≡ counting 0 n ++ (n ∷ [])
+counting-push n =
+    ap (counting 0) (add-one n) ∙ counting-more 0 n ∙ ap (λ k. counting 0 n ++ (k ∷ [])) (omega arith)
+
+one-or-none : (t : Bool) (n : ℕ) → length (cond t (n ∷ []) []) ≡ cond t 1 0
+one-or-none true n = refl
+one-or-none false n = refl
+
+-- a loop that counts the places that pass
+pub tally-more : (n : ℕ) (test : ℕ → Bool) → tally (n + 1) test ≡ tally n test + cond (test n) 1 0
+unfolding tally
+tally-more n test =
+    ap (λ ps. length (kept-by test ps)) (counting-push n) ∙ ap length (kept-by-append test (counting 0 n) (n ∷ []))
+    ∙ length-append (kept-by test (counting 0 n)) (kept-by test (n ∷ []))
+    ∙ ap (λ k. length (kept-by test (counting 0 n)) + k) (one-or-none (test n) n)
+
+pub tally-none : (test : ℕ → Bool) → tally 0 test ≡ 0
+unfolding tally
+tally-none test = refl
+
+-- a loop that keeps the best frame so far
+pub best-more : (g : Geometry) (class : ℕ) (rows : List (Option Row)) (n : ℕ) → best-below g class rows (n + 1) ≡ better g class n (getD rows n None) (best-below g class rows n)
+unfolding best-below
+best-more g class rows n =
+    let beat = λ (held : Option (ℕ × Row)) (f : ℕ). better g class f (getD rows f None) held in
+    ap (λ ps. folded beat None ps) (counting-push n) ∙ folded-push beat None (counting 0 n) n
+
+pub best-none : (g : Geometry) (class : ℕ) (rows : List (Option Row)) → best-below g class rows 0 ≡ None
+unfolding best-below
+best-none g class rows = refl
+
+-- the places that pass, from i on and below n
+unfoldable pub passing : (ℕ → Bool) → ℕ → ℕ → List ℕ
+passing test n i = kept-by test (counting i (n - i))
+
+pub passing-all : (test : ℕ → Bool) (n : ℕ) → passing test n 0 ≡ kept-by test (counting 0 n)
+unfolding passing
+passing-all test n = ap (λ k. kept-by test (counting 0 k)) (omega arith)
+
+passing-step : (test : ℕ → Bool) (n i : ℕ) → i < n → passing test n i ≡ cond (test i) (i ∷ passing test n (i + 1)) (passing test n (i + 1))
+unfolding passing
+passing-step test n i below =
+    ap (λ k. kept-by test (counting i k)) (let e : n - i ≡ suc (n - (i + 1)) = omega arith in e)
+
+pub passing-yes : (test : ℕ → Bool) (n i : ℕ) → i < n → test i ≡ true → passing test n i ≡ i ∷ passing test n (i + 1)
+passing-yes test n i below passes =
+    passing-step test n i below ∙ ap (λ b. cond b (i ∷ passing test n (i + 1)) (passing test n (i + 1))) passes
+
+pub passing-no : (test : ℕ → Bool) (n i : ℕ) → i < n → test i ≡ false → passing test n i ≡ passing test n (i + 1)
+passing-no test n i below fails =
+    passing-step test n i below ∙ ap (λ b. cond b (i ∷ passing test n (i + 1)) (passing test n (i + 1))) fails
+
+pub passing-end : (test : ℕ → Bool) (n i : ℕ) → n ≤ i → passing test n i ≡ []
+unfolding passing
+passing-end test n i past = ap (λ k. kept-by test (counting i k)) (let e : n - i ≡ 0 = omega arith in e)
