@@ -1,7 +1,7 @@
 // The two kinds of elements that join.
 ghost use mathlib.Core.Path.{_≡_};
 ghost use Rattle.joining.specs.Kinds.{word-joined, empty-word, cell-joined, empty-cell};
-use crate::trait_of::Join;
+use crate::element::Join;
 
 // 64 slot bits: bit s says that slot s is occupied.
 #[derive(Clone, Copy, PartialEq, Eq, Debug)]

@@ -1,21 +1,24 @@
 -- The first n places, those of them that pass a test, and the steps of a loop over them.
 use mathlib.Core.Path.{_≡_, refl, sym, ap, _∙_}
-use mathlib.Core.Bool.{Bool, true, false, cond}
+use mathlib.Core.Bool.{Bool, true, false, cond, _&&_}
 use mathlib.Core.List.{List, [], _∷_, _++_}
 use Prim.Native.Nat.{ℕ, zero, suc, _+_, _-_, _<_, _≤_}
 use native.Mathlib.Nat.{add-zero, add-suc}
 use native.Mathlib.Numerals.{add-one}
 use native.Mathlib.Omega.{arith}
+use lib.Dec.{ltb}
 use lib.ListN.{length, getD, length-append}
+use Rattle.std.proofs.shelf.Tests.{and-parts}
 use Rattle.std.specs.Iters.{counting, folded}
 use Rattle.std.specs.Runs.{kept-by}
 use Rattle.std.proofs.shelf.Elements.{kept-by-append}
 use Rattle.std.proofs.shelf.Sums.{folded-push}
+use Rattle.std.specs.Options.{valueOr}
 use Rattle.std.specs.declared.option.Option.{Option}
 use Rattle.std.specs.declared.option.Option.the-variants.{Some, None}
 use Rattle.model.specs.declared.Row.{Row}
 use Rattle.model.specs.Geometry.{Geometry}
-use Rattle.model.specs.Calls.{tally, better, best-below}
+use Rattle.model.specs.Calls.{occupied, serves, tally, better, best-below}
 
 -- one place more at the end
 pub counting-more : (a n : ℕ) → counting a (suc n) ≡ counting a n ++ ((a + n) ∷ [])
@@ -78,3 +81,28 @@ passing-no test n i below fails =
 pub passing-end : (test : ℕ → Bool) (n i : ℕ) → n ≤ i → passing test n i ≡ []
 unfolding passing
 passing-end test n i past = ap (λ k. kept-by test (counting i k)) (let e : n - i ≡ 0 = omega arith in e)
+
+-- the best frame serves
+chosen : (t : Bool) (a b : Option (ℕ × Row)) (P : Row → Type 0) → (t ≡ true → (h : ℕ) (best : Row) → a ≡ Some (h, best) → P best) → (t ≡ false → (h : ℕ) (best : Row) → b ≡ Some (h, best) → P best) → (h : ℕ) (best : Row) → cond t a b ≡ Some (h, best) → P best
+chosen true a b P taken left = taken refl
+chosen false a b P taken left = left refl
+
+same-row : (f h : ℕ) (row best : Row) → _≡_ {A = Option (ℕ × Row)} (Some (f, row)) (Some (h, best)) → row ≡ best
+same-row f h row best e = ap (λ (o : Option (ℕ × Row)). valueOr {T = ℕ × Row} o (f, row) .1) e
+
+better-serves : (g : Geometry) (class f : ℕ) (row : Option Row) (held : Option (ℕ × Row)) → ((h : ℕ) (best : Row) → held ≡ Some (h, best) → serves g class best ≡ true) → (h : ℕ) (best : Row) → better g class f row held ≡ Some (h, best) → serves g class best ≡ true
+better-serves g class f None held so-far = so-far
+better-serves g class f (Some row) None so-far =
+    chosen (serves g class row) (Some (f, row)) None (λ best. serves g class best ≡ true)
+    (λ taken h best e. ap (serves g class) (sym (same-row f h row best e)) ∙ taken) (λ left. so-far)
+better-serves g class f (Some row) (Some (k, other)) so-far =
+    chosen (serves g class row && ltb (occupied g other) (occupied g row)) (Some (f, row)) (Some (k, other)) (λ best. serves g class best ≡ true)
+    (λ taken h best e. ap (serves g class) (sym (same-row f h row best e)) ∙ and-parts (serves g class row) (ltb (occupied g other) (occupied g row)) taken .0)
+    (λ left. so-far)
+
+pub best-serves : (g : Geometry) (class : ℕ) (rows : List (Option Row)) (n h : ℕ) (best : Row) → best-below g class rows n ≡ Some (h, best) → serves g class best ≡ true
+best-serves g class rows zero h best found =
+    let z : _≡_ {A = ℕ} 0 1 = cc (found, best-none g class rows) in let never : ⊥ = omega arith in absurd never
+best-serves g class rows (suc n) h best found =
+    better-serves g class n (getD rows n None) (best-below g class rows n) (best-serves g class rows n) h best
+    (sym (best-more g class rows n) ∙ ap (best-below g class rows) (add-one n) ∙ found)

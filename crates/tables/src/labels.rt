@@ -8,6 +8,7 @@ ghost use Rattle.model.specs.Calls.{tally};
 ghost use Rattle.tables.specs.Views.{labels-of};
 use model::Patch;
 
+#[derive(Drop)]
 pub struct Labels {
     table: [Option<Patch>; 256],
 }

@@ -1,5 +1,6 @@
 // The frame table: the row of each frame that is out.
 ghost use mathlib.Core.Path.{_≡_};
+ghost use mathlib.Core.Bool.{true};
 ghost use Prim.Native.Nat.{ℕ, _<_};
 ghost use lib.Dec.{ltb};
 ghost use lib.ListN.{getD, set as set-at, replicate};
@@ -69,7 +70,8 @@ impl Rows {
     // The frame that serves a class, with its row: of the frames of the class with a free slot, the one with most
     // occupied slots, and of equals the one with the lowest number.
     pub fn serving(&self, class: u8) -> Option<(u32, Row)>
-        ensures { λ r. ⌜ r ≡ best-serving desktop class (rows-of (now (self .entry))) ⌝ }
+        ensures best { λ r. ⌜ r ≡ best-serving desktop class (rows-of (now (self .entry))) ⌝ }
+        ensures serves { λ r. ⌜ ((f : ℕ) (row : Row) → r ≡ Some (f, row) → row-serves desktop class row ≡ true) ⌝ }
     {
         let mut best: Option<(u32, Row)> = None;
         for frame in 0..64u32 {

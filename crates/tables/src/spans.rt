@@ -12,6 +12,7 @@ ghost use Rattle.tables.specs.Views.{spans-of};
 use model::Event;
 use model::Span;
 
+#[derive(Drop)]
 pub struct Spans {
     table: [Span; 128],
 }

@@ -4,7 +4,7 @@ use native.Mathlib.Omega.{arith}
 use Rattle.std.specs.declared.option.Option.the-variants.{None}
 use Rattle.model.specs.Geometry.{desktop}
 use Rattle.model.specs.Calls.{better, best-below}
-use Rattle.model.proofs.Places.{best-none, best-more}
+use Rattle.model.proofs.Places.{best-none, best-more, best-serves}
 use Rattle.tables.specs.Views.{rows-of}
 use Rattle.tables.proofs.rows.Rows.serving.Needs as need
 
@@ -22,4 +22,9 @@ loop-frame-again c =
 
 pub returns : need.returns
 returns c =
-    c .loop-frame .inv ∙ ap (best-below desktop (c .args .class) (rows-of (c .args .self .now))) (let end : c .loop-frame .frame ≡ 64 = omega arith in end)
+    let rows = rows-of (c .args .self .now) in
+    let found = c .loop-frame .inv ∙ ap (best-below desktop (c .args .class) rows) (let end : c .loop-frame .frame ≡ 64 = omega arith in end) in
+    record {
+      best = found;
+      serves = λ f row e. best-serves desktop (c .args .class) rows 64 f row (sym found ∙ e);
+    }
