@@ -1,3 +1,4 @@
 pub mod Tables
 pub mod Model
 pub mod Sound
+pub mod Laws

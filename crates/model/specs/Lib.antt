@@ -3,3 +3,4 @@ pub mod Masks
 pub mod State
 pub mod Calls
 pub mod Mesh
+pub mod Runs

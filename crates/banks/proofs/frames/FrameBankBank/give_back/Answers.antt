@@ -1,0 +1,36 @@
+use native.Mathlib.Omega.{arith}
+use mathlib.Core.Path.{_∙_, ap}
+use lib.ListN.{replicate}
+use Rattle.bank.specs.Tables.{poke}
+use Rattle.banks.specs.Spares.{marked, link}
+use Rattle.banks.proofs.Chains.{length-chain}
+use Rattle.banks.proofs.Steps.{bank-give-back, bank-keep}
+use Rattle.banks.proofs.frames.FrameBankBank.give_back.Needs as need
+
+pub returns-then-not-is-out : need.returns-then-not-is-out
+returns-then-not-is-out g c =
+    let store = c .args .self .now .store in
+    let spares = c .args .self .now .spares in
+    let n = g .S·Store .frames store in
+    record {
+      step =
+          bank-keep n (c .frames-frames .result) (g .S·Store .byte store) spares (c .args .frame)
+          (c .frames-frames .ensures .value) (c .if-not-is-out .ensures tt);
+      few = omega (arith, length-chain n (marked n spares) (link spares) (spares .head));
+    }
+
+pub returns : need.returns
+returns g c =
+    let store = c .args .self .now .store in
+    let spares = c .args .self .now .spares in
+    let n = g .S·Store .frames store in
+    let byte = g .S·Store .byte store in
+    record {
+      step =
+          bank-give-back n (g .S·Store .frames (c .clear .last .self)) (c .frames-frames .result) byte
+          (g .S·Store .byte (c .clear .last .self)) spares (c .put-first .last .self) (c .args .frame)
+          (c .frames-frames .ensures .value) (c .clear .ensures .frames) (c .if-not-is-out .ensures tt)
+          (c .clear .ensures .bytes ∙ ap (λ at. poke byte at (replicate 1024 0)) (c .place .ensures))
+          (c .put-first .ensures .list) (c .put-first .ensures .marks);
+      few = omega (arith, length-chain n (marked n spares) (link spares) (spares .head));
+    }

@@ -1,0 +1,21 @@
+use native.Mathlib.Omega.{arith}
+use mathlib.Core.Path.{_∙_, ap}
+use lib.ListN.{replicate}
+use Rattle.bank.specs.Tables.{poke}
+use Rattle.banks.proofs.Steps.{bank-reset, counting-proper}
+use Rattle.banks.proofs.frames.FrameBankBank.reset.Needs as need
+
+pub returns : need.returns
+returns g c =
+    let store = c .args .self .now .store in
+    let byte = g .S·Store .byte store in
+    record {
+      after =
+          bank-reset (g .S·Store .frames store) (g .S·Store .frames (c .clear .last .self)) (c .frames-frames .result) byte
+          (g .S·Store .byte (c .clear .last .self)) (c .args .self .now .spares) (c .opening-self .result)
+          (c .frames-frames .ensures .value) (c .clear .ensures .frames) (omega arith)
+          (c .clear .ensures .bytes ∙ ap (λ n. poke byte 0 (replicate n 0)) (c .place .ensures))
+          (c .opening-self .ensures .list) (c .opening-self .ensures .none);
+      few = omega arith;
+      proper = counting-proper (g .S·Store .frames store) (g .S·Store .frames store) 0 (omega arith);
+    }

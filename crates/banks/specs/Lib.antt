@@ -1,0 +1,4 @@
+pub mod Memory
+pub mod Chain
+pub mod Spares
+pub mod Frames

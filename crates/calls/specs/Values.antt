@@ -1,0 +1,32 @@
+-- Calls and answers as values of the code, and as the definition of a pool has them.
+use Prim.Native.Nat.{ℕ}
+use mathlib.Core.List.{List}
+use Rattle.std.specs.declared.alloc.Global.{Global}
+use Rattle.std.specs.Of.Vec.{vec-items}
+use Rattle.std.specs.declared.vec.Vec.{Vec}
+use Rattle.std.specs.declared.result.Result.{Result}
+use Rattle.std.specs.declared.result.Result.the-variants.{Ok, Err}
+use Rattle.refusal.specs.declared.Refusal.{Refusal}
+use Rattle.calls.specs.declared.Call.{Call}
+use Rattle.calls.specs.declared.Call.the-variants.{New, Write, Read, Place, Count}
+use Rattle.calls.specs.declared.Answer.{Answer}
+use Rattle.calls.specs.declared.Answer.the-variants.{ToNew, ToWrite, ToRead, ToPlace, ToCount}
+use Rattle.model.specs.Runs as runs
+
+abbrev pub call-of : Call → runs.Call
+call-of (New label length) = runs.New label length
+call-of (Write label offset bytes) = runs.Write label offset (vec-items bytes)
+call-of (Read label offset count) = runs.Read label offset count
+call-of (Place label) = runs.Place label
+call-of Count = runs.Count
+
+abbrev pub bytes-of : Result (Vec ℕ Global) Refusal → Result (List ℕ) Refusal
+bytes-of (Ok bytes) = Ok (vec-items bytes)
+bytes-of (Err e) = Err e
+
+abbrev pub answer-of : Answer → runs.Answer
+answer-of (ToNew r) = runs.To-new r
+answer-of (ToWrite r) = runs.To-write r
+answer-of (ToRead r) = runs.To-read (bytes-of r)
+answer-of (ToPlace r) = runs.To-place r
+answer-of (ToCount counts) = runs.To-count counts
