@@ -1,0 +1,143 @@
+-- The walk over a list of command bytes: one command after the other.
+use mathlib.Core.Path.{_≡_, refl, sym, ap, subst, _∙_}
+use mathlib.Core.Bool.{Bool, true, false, cond}
+use mathlib.Core.List.{List, [], _∷_, _++_, append-assoc}
+use mathlib.Core.Logic.{⊎-elim}
+use Prim.Native.Nat.{ℕ, zero, suc, _+_, _-_, _≤_, _<_}
+use native.Mathlib.Nat.{add-zero}
+use native.Mathlib.Numerals.{one-add}
+use native.Mathlib.Omega.{arith}
+use lib.Dec.{eqb, leb}
+use lib.ListN.{length, drop, length-drop}
+use Rattle.std.specs.declared.result.Result.{Result}
+use Rattle.std.specs.declared.result.Result.the-variants.{Ok, Err}
+use Rattle.std.proofs.shelf.Lists.{append-nil}
+use Rattle.std.proofs.shelf.Tests.{cond-both, leb-true}
+use Rattle.refusal.specs.declared.Refusal.{Refusal}
+use Rattle.refusal.specs.declared.Refusal.the-variants.{Command as UnknownLetter, Cut}
+use Rattle.model.specs.Geometry.{Geometry}
+use Rattle.model.specs.State.{State}
+use Rattle.model.specs.Mesh.{Meaning}
+use Rattle.model.specs.Runs as runs
+use Rattle.playback.specs.declared.command.Command.{Command}
+use Rattle.playback.specs.declared.command.Command.the-variants.{New, Write, Read, Place, Count}
+use Rattle.playback.specs.declared.line.Line.{Line}
+use Rattle.playback.specs.Format.{operands, whole, lettered, new-command, write-command, read-command, place-command, decoded, called}
+use Rattle.playback.specs.Playing.{told, told-with, broken, before, commanded, plays}
+
+same-command : (a b : Command) → _≡_ {A = Result Command Refusal} (Ok a) (Ok b) → a ≡ b
+same-command a b e = cc
+
+no-command : (e : Refusal) (c : Command) → _≡_ {A = Result Command Refusal} (Err e) (Ok c) → ⊥
+no-command e c is = let z : _≡_ {A = ℕ} 0 1 = cc in omega arith
+
+-- an answer that is a command has its operands in the bytes
+abbrev Long : List ℕ → Result Command Refusal → Type 0
+Long bytes a = (command : Command) → a ≡ Ok command → operands command ≤ length bytes
+
+no-long : (bytes : List ℕ) (e : Refusal) → Long bytes (Err e)
+no-long bytes e command is = absurd (no-command e command is)
+
+whole-long : (bytes : List ℕ) (want : Command) → Long bytes (whole bytes want)
+whole-long bytes want =
+    cond-both (leb (operands want) (length bytes)) (Ok want) (Err Cut) (Long bytes)
+    (λ there command is. subst (λ c. operands c ≤ length bytes) (same-command want command is) (leb-true (operands want) (length bytes) there))
+    (λ short. no-long bytes Cut)
+
+either : (bytes : List ℕ) (t : Bool) (a b : Result Command Refusal) → Long bytes a → Long bytes b → Long bytes (cond t a b)
+either bytes t a b one other = cond-both t a b (Long bytes) (λ e. one) (λ e. other)
+
+lettered-long : (letter : ℕ) (bytes : List ℕ) → Long bytes (lettered letter bytes)
+lettered-long letter bytes =
+    either bytes (eqb letter 78) (whole bytes (new-command bytes)) _ (whole-long bytes (new-command bytes))
+    (either bytes (eqb letter 87) (whole bytes (write-command bytes)) _ (whole-long bytes (write-command bytes))
+    (either bytes (eqb letter 82) (whole bytes (read-command bytes)) _ (whole-long bytes (read-command bytes))
+    (either bytes (eqb letter 80) (whole bytes (place-command bytes)) _ (whole-long bytes (place-command bytes))
+    (either bytes (eqb letter 67) (Ok Count) (Err UnknownLetter) (λ command is. subst (λ c. operands c ≤ length bytes) (same-command Count command is) (omega arith)) (no-long bytes UnknownLetter)))))
+
+pub decoded-long : (bytes : List ℕ) (command : Command) → decoded bytes ≡ Ok command → 1 + operands command ≤ length bytes
+decoded-long [] command is = absurd (no-command UnknownLetter command is)
+decoded-long (letter ∷ bytes) command is = omega (arith, lettered-long letter bytes command is)
+
+-- more lines in front
+abbrev pub behind : {C : Type 0} → List Line → List Line × State C → List Line × State C
+behind lines rest = (lines ++ rest .0, rest .1)
+
+-- a loop that keeps the lines told so far: one line more
+pub behind-more : {C : Type 0} (lines : List Line) (line : Line) (rest : List Line × State C) → behind (lines ++ line ∷ []) rest ≡ behind lines (before line rest)
+behind-more {C} lines line rest = ap (λ (ls : List Line). let r : List Line × State C = (ls, rest .1) in r) (append-assoc lines (line ∷ []) (rest .0))
+
+module _ {C : Type 0} (g : Geometry) (meaning : Meaning C) where
+  passed : (k at byte : ℕ) (bytes : List ℕ) (s : State C) → plays g meaning (suc k) at (byte ∷ bytes) s ≡ plays g meaning k (at + 1) bytes s
+  unfolding plays
+  passed k at byte bytes s = refl
+
+  -- operand bytes are passed over
+  plays-on : (k at : ℕ) (bytes : List ℕ) (s : State C) → k ≤ length bytes → plays g meaning k at bytes s ≡ plays g meaning 0 (at + k) (drop k bytes) s
+  plays-on zero at bytes s there = ap (λ n. plays g meaning 0 n bytes s) (sym (add-zero at))
+  plays-on (suc k) at [] s there = let never : ⊥ = omega arith in absurd never
+  plays-on (suc k) at (byte ∷ bytes) s there =
+      passed k at byte bytes s ∙ plays-on k (at + 1) bytes s (omega arith)
+      ∙ ap (λ n. plays g meaning 0 n (drop k bytes) s) (let e : at + 1 + k ≡ at + suc k = omega arith in e)
+
+  begun : (at byte : ℕ) (bytes : List ℕ) (s : State C) → plays g meaning 0 at (byte ∷ bytes) s ≡ commanded g meaning (λ left t. plays g meaning left (at + 1) bytes t) at (decoded (byte ∷ bytes)) s
+  unfolding plays
+  begun at byte bytes s = refl
+
+  -- a command, and the rest of the list
+  pub turn : (at : ℕ) (bytes : List ℕ) (command : Command) (s : State C) → decoded bytes ≡ Ok command → plays g meaning 0 at bytes s ≡ before (told g at command (runs.step g meaning (called command) s)) (plays g meaning 0 (at + (1 + operands command)) (drop (1 + operands command) bytes) (runs.step g meaning (called command) s .1))
+  turn at [] command s is = absurd (no-command UnknownLetter command is)
+  turn at (byte ∷ bytes) command s is =
+      let done = runs.step g meaning (called command) s in
+      let rest : ℕ → State C → List Line × State C = λ left t. plays g meaning left (at + 1) bytes t in
+      begun at byte bytes s
+      ∙ ap (λ d. commanded g meaning rest at d s) is
+      ∙ ap (before (told g at command done))
+      (plays-on (operands command) (at + 1) bytes (done .1) (omega (arith, decoded-long (byte ∷ bytes) command is))
+      ∙ ap (λ n. plays g meaning 0 n (drop (operands command) bytes) (done .1)) (let e : at + 1 + operands command ≡ at + (1 + operands command) = omega arith in e)
+      ∙ ap (λ k. plays g meaning 0 (at + (1 + operands command)) (drop k (byte ∷ bytes)) (done .1)) (sym (one-add (operands command))))
+
+  -- a fault of the list
+  pub fault-turn : (at : ℕ) (bytes : List ℕ) (e : Refusal) (s : State C) → 0 < length bytes → decoded bytes ≡ Err e → plays g meaning 0 at bytes s ≡ (broken g at e s ∷ [], s)
+  fault-turn at [] e s some is = let never : ⊥ = omega arith in absurd never
+  fault-turn at (byte ∷ bytes) e s some is =
+      let rest : ℕ → State C → List Line × State C = λ left t. plays g meaning left (at + 1) bytes t in
+      begun at byte bytes s ∙ ap (λ d. commanded g meaning rest at d s) is
+
+  pub plays-none : (at : ℕ) (s : State C) → plays g meaning 0 at [] s ≡ ([], s)
+  unfolding plays
+  plays-none at s = refl
+
+-- what is left after a command is shorter by the command
+pub shorter : (bytes rest : List ℕ) (command : Command) → decoded bytes ≡ Ok command → rest ≡ drop (1 + operands command) bytes → length rest + (1 + operands command) ≡ length bytes
+shorter bytes rest command is cut =
+    omega (arith, ap length cut, length-drop (1 + operands command) bytes, decoded-long bytes command is)
+
+module _ {C : Type 0} (g : Geometry) (meaning : Meaning C) (all bytes : List ℕ) (within : length bytes ≤ length all) where
+  -- a turn of the loop that performs a command
+  pub performed : (rest : List ℕ) (lines more : List Line) (line : Line) (command : Command) (s t : State C) (whole : List Line × State C) → decoded bytes ≡ Ok command → rest ≡ drop (1 + operands command) bytes → (line, t) ≡ told-with g (length all - length bytes) command (runs.step g meaning (called command) s) → more ≡ lines ++ line ∷ [] → behind lines (plays g meaning 0 (length all - length bytes) bytes s) ≡ whole → behind more (plays g meaning 0 (length all - length rest) rest t) ≡ whole
+  performed rest lines more line command s t whole is cut done pushed so-far =
+      let at = length all - length bytes in
+      let next : length all - length rest ≡ at + (1 + operands command) = omega (arith, shorter bytes rest command is cut) in
+      let after : List Line × State C = plays g meaning 0 (length all - length rest) rest t in
+      let moved : after ≡ plays g meaning 0 (at + (1 + operands command)) (drop (1 + operands command) bytes) (runs.step g meaning (called command) s .1) =
+      ap (λ n. plays g meaning 0 n rest t) next ∙ ap (λ r. plays g meaning 0 (at + (1 + operands command)) r t) cut
+      ∙ ap (plays g meaning 0 (at + (1 + operands command)) (drop (1 + operands command) bytes)) (ap (λ (x : Line × State C). x .1) done) in
+      ap (λ ls. behind ls after) pushed ∙ behind-more lines line after
+      ∙ ap (λ l. behind lines (before l after)) (ap (λ (x : Line × State C). x .0) done)
+      ∙ ap (λ r. behind lines (before (told g at command (runs.step g meaning (called command) s)) r)) moved
+      ∙ ap (behind lines) (sym (turn g meaning at bytes command s is)) ∙ so-far
+
+  -- the turn that ends at a fault
+  pub ended : (lines more : List Line) (line : Line) (e : Refusal) (s t : State C) (whole : List Line × State C) → 0 < length bytes → decoded bytes ≡ Err e → line ≡ broken g (length all - length bytes) e s → t ≡ s → more ≡ lines ++ line ∷ [] → behind lines (plays g meaning 0 (length all - length bytes) bytes s) ≡ whole → (more, t) ≡ whole
+  ended lines more line e s t whole some is told same pushed so-far =
+      let pair : List Line → State C → List Line × State C = λ ls x. (ls, x) in
+      ap (λ ls. pair ls t) pushed ∙ ap (λ l. pair (lines ++ l ∷ []) t) told ∙ ap (pair (lines ++ broken g (length all - length bytes) e s ∷ [])) same
+      ∙ ap (behind lines) (sym (fault-turn g meaning (length all - length bytes) bytes e s some is)) ∙ so-far
+
+  -- the end of the list
+  pub finished : (lines : List Line) (s : State C) (whole : List Line × State C) → bytes ≡ [] → behind lines (plays g meaning 0 (length all - length bytes) bytes s) ≡ whole → (lines, s) ≡ whole
+  finished lines s whole none so-far =
+      let pair : List Line → List Line × State C = λ ls. (ls, s) in
+      ap pair (sym (append-nil lines)) ∙ ap (behind lines) (sym (plays-none g meaning (length all - length bytes) s))
+      ∙ ap (λ bs. behind lines (plays g meaning 0 (length all - length bytes) bs s)) (sym none) ∙ so-far
