@@ -14,7 +14,7 @@ use Rattle.bank.proofs.Puts.{put-same, put-other}
 use Rattle.banks.specs.Chain.{open-places, walk, chain}
 
 -- open places only depend on what is blocked below n
-open-same : (n : ℕ) (b c : ℕ → Bool) → ((k : ℕ) → k < n → b k ≡ c k) → open-places n b ≡ open-places n c
+pub open-same : (n : ℕ) (b c : ℕ → Bool) → ((k : ℕ) → k < n → b k ≡ c k) → open-places n b ≡ open-places n c
 unfolding open-places
 open-same zero b c h = refl
 open-same (suc n) b c h =
@@ -22,7 +22,7 @@ open-same (suc n) b c h =
     let below : open-places n b ≡ open-places n c = open-same n b c (λ k l. h k (omega arith)) in cc
 
 -- to block one more place takes one from the open ones
-open-block : (n : ℕ) (b : ℕ → Bool) (x : ℕ) → x < n → b x ≡ false → open-places n b ≡ suc (open-places n (put b x true))
+pub open-block : (n : ℕ) (b : ℕ → Bool) (x : ℕ) → x < n → b x ≡ false → open-places n b ≡ suc (open-places n (put b x true))
 unfolding open-places
 open-block zero b x l e = absurd (omega arith)
 open-block (suc n) b x l e =
@@ -40,7 +40,7 @@ open-block (suc n) b x l e =
     let s : _≡_ {A = ℕ} (cond (put b x true n) 0 1) (cond (b n) 0 1) = ap (λ v. cond {A = ℕ} v 0 1) p in omega arith)
     (cases-eq n x)
 
-open-none : (n : ℕ) (b : ℕ → Bool) → ((k : ℕ) → b k ≡ false) → open-places n b ≡ n
+pub open-none : (n : ℕ) (b : ℕ → Bool) → ((k : ℕ) → b k ≡ false) → open-places n b ≡ n
 unfolding open-places
 open-none zero b h = refl
 open-none (suc n) b h =

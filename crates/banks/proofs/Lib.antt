@@ -1,3 +1,5 @@
 pub mod Chains
 pub mod Stretches
 pub mod Steps
+pub mod Rows
+pub mod Limits

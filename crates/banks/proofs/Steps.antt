@@ -1,11 +1,11 @@
 -- What each step on the spare frames and on the store does to the meaning of the bank.
-use Prim.Native.Nat.{ℕ, zero, suc, _+_, _<_, _≤_}
+use Prim.Native.Nat.{ℕ, zero, suc, _+_, _/_, _%_, _<_, _≤_}
 use native.Mathlib.Omega.{arith}
 use mathlib.Core.Path.{_≡_, refl, sym, ap, subst, _∙_, fun-ext}
 use mathlib.Core.Bool.{Bool, true, false, cond, _&&_}
 use mathlib.Core.List.{List, [], _∷_, List·Memᴰ, List·Memᴰ·not-nil, List·Memᴰ·cases-cons}
 use mathlib.Core.Logic.{⊎-elim}
-use lib.Dec.{ltb, leb}
+use lib.Dec.{eqb, ltb, leb}
 use lib.ListN.{length, getD, set, replicate}
 use Rattle.std.specs.Iters.{counting}
 use Rattle.std.specs.declared.result.Result.{Result}
@@ -20,12 +20,12 @@ use Rattle.bank.specs.Sound.{Proper, Sound}
 use Rattle.bank.proofs.Puts.{put-same, put-other}
 use Rattle.bank.proofs.Soundness.{reset-sound}
 use Rattle.banks.specs.declared.spares.Spares.{Spares}
-use Rattle.banks.specs.Memory.{whole-frames, cleared, framed, place}
+use Rattle.banks.specs.Memory.{whole-frames, lane-frames, woven, cleared, framed, place}
 use Rattle.banks.specs.Chain.{chain}
 use Rattle.banks.specs.Spares.{marked, link, listed, taken}
-use Rattle.banks.specs.Frames.{bank-of, fresh, flat-bank}
+use Rattle.banks.specs.Frames.{bank-of, fresh, flat-bank, lane-bank}
 use Rattle.banks.proofs.Chains.{chain-past, chain-blocked, chain-goes, chain-first, chain-rises}
-use Rattle.banks.proofs.Stretches.{framed-poke, framed-clear, framed-clear-all, framed-peek, whole-few, length-cleared, getD-cleared}
+use Rattle.banks.proofs.Stretches.{framed-poke, framed-clear, framed-clear-all, framed-peek, whole-few, lane-few, length-cleared, getD-cleared}
 
 -- a list with one element set, as a function from places
 pub getD-put : {A : Type 0} (xs : List A) (i : ℕ) (v d : A) → i < length xs → (λ k. getD (set xs i v) k d) ≡ put (λ k. getD xs k d) i v
@@ -200,3 +200,22 @@ flat-fresh xs ys s e list none =
     bank-fresh n (whole-frames (length ys)) (λ k. getD ys k 0) s (ap (λ l. whole-frames (length l)) e ∙ ap whole-frames (length-cleared n xs))
     (whole-few (length xs))
     (λ f i l h. ap (λ m. getD m (place f i) 0) e ∙ getD-cleared n xs (place f i) (omega arith)) list none
+
+pub lane-fresh : (xs ys xs′ ys′ : List ℕ) (s : Spares) → xs′ ≡ cleared (lane-frames (length xs) (length ys)) xs → ys′ ≡ cleared (lane-frames (length xs) (length ys)) ys → ((k : ℕ) → k ≤ 64 → listed k s ≡ counting 0 k) → ((k : ℕ) → marked k s ≡ (λ f. false)) → lane-bank xs′ ys′ s ≡ fresh (lane-frames (length xs) (length ys))
+lane-fresh xs ys xs′ ys′ s e e′ list none =
+    let n = lane-frames (length xs) (length ys) in
+    let same : length xs′ ≡ length xs = ap length e ∙ length-cleared n xs in
+    let same′ : length ys′ ≡ length ys = ap length e′ ∙ length-cleared n ys in
+    bank-fresh n (lane-frames (length xs′) (length ys′)) (woven xs′ ys′) s
+    (ap (λ k. lane-frames k (length ys′)) same ∙ ap (lane-frames (length xs)) same′)
+    (lane-few (length xs) (length ys))
+    (λ f i l h.
+    cond-both (eqb (place f i % 2) 0) (getD xs′ (place f i / 2) 0) (getD ys′ (place f i / 2) 0) (λ v. v ≡ 0)
+    (λ even. ap (λ m. getD m (place f i / 2) 0) e ∙ getD-cleared n xs (place f i / 2) (omega arith))
+    (λ odd. ap (λ m. getD m (place f i / 2) 0) e′ ∙ getD-cleared n ys (place f i / 2) (omega arith)))
+    list none
+
+-- a store with no frames has none out
+pub none-out : (n r : ℕ) (s : Spares) (f : ℕ) → r ≡ n → true ≡ marked r s f → n ≡ 0 → ⊥
+none-out n r s f e on none =
+    let low : f < r = ltb-true f r (and-parts (ltb f r) (getD (s .out) f false) (sym on) .0) in omega arith

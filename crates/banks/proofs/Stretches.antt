@@ -13,7 +13,7 @@ use Rattle.std.specs.Iters.{counting}
 use Rattle.std.proofs.shelf.Lists.{length-replicate, length-append, length-take, length-drop, getD-replicate, getD-past, drop-more, drop-drop, places}
 use Rattle.std.proofs.shelf.Tests.{cases-eq, cases-lt, lt-ltb, le-ltb, le-leb, lt-leb, leb-true, and-from, and-parts, and-left, and-right, cond-true, cond-false, cond-both, eq-eqb, ne-eqb}
 use Rattle.bank.specs.Tables.{put, peek, poke}
-use Rattle.banks.specs.Memory.{whole-frames, cleared, framed, place}
+use Rattle.banks.specs.Memory.{whole-frames, lane-frames, cleared, framed, place}
 
 -- zeros, at every place
 abbrev pub zeros : ℕ → List ℕ
@@ -195,3 +195,6 @@ length-cleared n xs =
 pub getD-cleared : (n : ℕ) (xs : List ℕ) (k : ℕ) → 0 < n → getD (cleared n xs) k 0 ≡ 0
 getD-cleared n xs k some =
     ap (λ l. getD l k 0) (cond-false (eqb n 0) xs (zeros (length xs)) (ne-eqb n 0 (omega arith))) ∙ getD-zeros (length xs) k
+
+pub lane-few : (a b : ℕ) → lane-frames a b ≤ 64
+lane-few a b = cond-both (eqb a b) (whole-frames (a + b)) 0 (λ f. f ≤ 64) (λ e. whole-few (a + b)) (λ e. omega arith)

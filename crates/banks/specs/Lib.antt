@@ -2,3 +2,4 @@ pub mod Memory
 pub mod Chain
 pub mod Spares
 pub mod Frames
+pub mod Quota

@@ -3,7 +3,7 @@ use Prim.Native.Nat.{ℕ, _+_, _*_, _/_, _%_}
 use mathlib.Core.Bool.{Bool, cond, _&&_}
 use mathlib.Core.List.{List}
 use lib.Dec.{eqb, leb, ltb}
-use lib.ListN.{length, replicate}
+use lib.ListN.{length, getD, replicate}
 use Rattle.std.specs.declared.result.Result.{Result}
 use Rattle.std.specs.declared.result.Result.the-variants.{Ok, Err}
 use Rattle.refusal.specs.declared.Refusal.{Refusal}
@@ -14,6 +14,14 @@ use Rattle.bank.specs.Model.{frame-bytes, most-frames}
 -- byte left over
 abbrev pub whole-frames : ℕ → ℕ
 whole-frames n = cond (eqb (n % frame-bytes) 0 && leb (n / frame-bytes) most-frames) (n / frame-bytes) 0
+
+-- how many frames two memories of a and b bytes have together: none, unless they are of one length
+abbrev pub lane-frames : ℕ → ℕ → ℕ
+lane-frames a b = cond (eqb a b) (whole-frames (a + b)) 0
+
+-- two memories as one row of bytes, one of the first and one of the second by turns
+abbrev pub woven : List ℕ → List ℕ → ℕ → ℕ
+woven first second k = cond (eqb (k % 2) 0) (getD first (k / 2) 0) (getD second (k / 2) 0)
 
 -- what the check of a memory answers that has n frames
 abbrev pub checked : ℕ → Result (Unit {0}) Refusal

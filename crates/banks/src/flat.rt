@@ -15,7 +15,7 @@ use bank::MOST_FRAMES;
 use refusal::Refusal;
 
 // How many frames a memory of so many bytes has.
-pub fn whole_frames(bytes: usize) -> u32
+pub(super) fn whole_frames(bytes: usize) -> u32
     ensures value { λ r. ⌜ r ≡ whole-frames bytes ⌝ }
     ensures few { λ r. ⌜ r ≤ 64 ⌝ }
     ensures within { λ r. ⌜ 1024 * r ≤ bytes ⌝ }
@@ -79,16 +79,16 @@ impl<'a> FlatBank<'a> {
         ensures model { λ r. ⌜ flat-bank (now (r .store .memory)) (r .spares) ≡ fresh (whole-frames (length (now (memory .entry)))) ⌝ }
         ensures sound { λ r. ⌜ Sound (flat-bank (now (r .store .memory)) (r .spares)) ⌝ }
     {
-        clear_frames(memory);
+        clear_if(whole_frames(memory.len()), memory);
         opened(FlatMemory { memory })
     }
 }
 
-// Clears the frames of a memory.
-fn clear_frames(memory: &mut [u8])
-    ensures { λ _. ⌜ now (memory .exit) ≡ cleared (whole-frames (length (now (memory .entry)))) (now (memory .entry)) ⌝ }
+// Clears a memory that has frames.
+pub(super) fn clear_if(frames: u32, memory: &mut [u8])
+    ensures { λ _. ⌜ now (memory .exit) ≡ cleared frames (now (memory .entry)) ⌝ }
 {
-    if whole_frames(memory.len()) > 0 {
+    if frames > 0 {
         memory.fill(0);
     }
 }

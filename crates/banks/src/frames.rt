@@ -1,20 +1,24 @@
 // A bank over a store of bytes. Flat and lane banks differ in their store alone.
 ghost use mathlib.Core.Path.{_≡_};
-ghost use Prim.Native.Nat.{ℕ, _+_, _≤_};
+ghost use Prim.Native.Nat.{ℕ, _+_, _<_, _≤_};
+ghost use lib.ListN.{length};
+ghost use Rattle.std.specs.declared.result.Result.the-variants.{Ok};
 ghost use mathlib.Core.Bool.{false};
 ghost use Rattle.std.specs.Iters.{counting};
 ghost use Rattle.banks.specs.Spares.{marked, listed};
 ghost use lib.Dec.{leb};
-ghost use Rattle.bank.specs.Model.{frame-bytes};
+ghost use Rattle.bank.specs.Model.{frame-bytes, most-frames, reset as resetting, grant as granting, give-back as giving, read as reading, write as writing};
+ghost use Rattle.bank.specs.Sound.{Proper};
 ghost use Rattle.banks.specs.Memory.{place as place-of};
-ghost use Rattle.banks.specs.Frames.{bank-of};
+ghost use Rattle.banks.specs.Frames.{frame-bank};
 use super::spares::Spares;
 use super::store::Store;
 use bank::Bank;
 use bank::FRAME_BYTES;
 use refusal::Refusal;
 
-// A bank whose frames lie end to end in a store.
+// A bank whose frames lie end to end in a store. Its calls promise, beside what every bank's do, that a store with no
+// frames is left as it is.
 #[derive(Drop)]
 pub struct FrameBank<S> {
     store: S,
@@ -48,20 +52,35 @@ fn fits(offset: u32, bytes: usize) -> bool
 }
 
 pub impl<S: Store> Bank for FrameBank<S> as FrameBankBank {
-    ghost model = { λ b. bank-of (S·Store .frames (b .store)) (S·Store .byte (b .store)) (b .spares) };
+    ghost model = { frame-bank (S·Store .frames) (S·Store .byte) };
 
-    fn reset(&mut self) {
-        let frames = self.store.frames();
-        self.store.clear(0, place(frames, 0));
+    fn reset(&mut self)
+        ensures after { λ _. ⌜ frame-bank (S·Store .frames) (S·Store .byte) (now (self .exit)) ≡ resetting (frame-bank (S·Store .frames) (S·Store .byte) (now (self .entry))) ⌝ }
+        ensures few { λ _. ⌜ frame-bank (S·Store .frames) (S·Store .byte) (now (self .entry)) .size ≤ most-frames ⌝ }
+        ensures proper { λ _. ⌜ Proper (frame-bank (S·Store .frames) (S·Store .byte) (now (self .entry)) .size) (frame-bank (S·Store .frames) (S·Store .byte) (now (self .entry)) .opening) ⌝ }
+        ensures idle { λ _. ⌜ (S·Store .frames (now (self .entry) .store) ≡ 0 → now (self .exit) .store ≡ now (self .entry) .store) ⌝ }
+    {
         self.spares = Spares::opening();
+        let frames = self.store.frames();
+        if frames > 0 {
+            self.store.clear(0, place(frames, 0));
+        }
     }
 
-    fn grant(&mut self) -> Result<u32, Refusal> {
+    fn grant(&mut self) -> Result<u32, Refusal>
+        ensures step { λ r. ⌜ (r, frame-bank (S·Store .frames) (S·Store .byte) (now (self .exit))) ≡ granting (frame-bank (S·Store .frames) (S·Store .byte) (now (self .entry))) ⌝ }
+        ensures bound { λ r. ⌜ ((f : ℕ) → r ≡ Ok f → f < most-frames) ⌝ }
+        ensures store { λ _. ⌜ now (self .exit) .store ≡ now (self .entry) .store ⌝ }
+    {
         let frames = self.store.frames();
         self.spares.take(frames)
     }
 
-    fn give_back(&mut self, frame: u32) -> Result<(), Refusal> {
+    fn give_back(&mut self, frame: u32) -> Result<(), Refusal>
+        ensures step { λ r. ⌜ (r, frame-bank (S·Store .frames) (S·Store .byte) (now (self .exit))) ≡ giving frame (frame-bank (S·Store .frames) (S·Store .byte) (now (self .entry))) ⌝ }
+        ensures few { λ _. ⌜ length (frame-bank (S·Store .frames) (S·Store .byte) (now (self .entry)) .spare) ≤ most-frames ⌝ }
+        ensures idle { λ _. ⌜ (S·Store .frames (now (self .entry) .store) ≡ 0 → now (self .exit) .store ≡ now (self .entry) .store) ⌝ }
+    {
         let frames = self.store.frames();
         if !self.spares.is_out(frames, frame) {
             return Err(Refusal::NotOut);
@@ -71,7 +90,11 @@ pub impl<S: Store> Bank for FrameBank<S> as FrameBankBank {
         Ok(())
     }
 
-    fn read(&mut self, frame: u32, offset: u32, buffer: &mut [u8]) -> Result<(), Refusal> {
+    fn read(&mut self, frame: u32, offset: u32, buffer: &mut [u8]) -> Result<(), Refusal>
+        ensures step { λ r. ⌜ (r, now (buffer .exit)) ≡ reading frame offset (now (buffer .entry)) (frame-bank (S·Store .frames) (S·Store .byte) (now (self .entry))) ⌝ }
+        ensures same { λ _. ⌜ frame-bank (S·Store .frames) (S·Store .byte) (now (self .exit)) ≡ frame-bank (S·Store .frames) (S·Store .byte) (now (self .entry)) ⌝ }
+        ensures store { λ _. ⌜ now (self .exit) .store ≡ now (self .entry) .store ⌝ }
+    {
         if !fits(offset, buffer.len()) {
             return Err(Refusal::Edge);
         }
@@ -83,7 +106,10 @@ pub impl<S: Store> Bank for FrameBank<S> as FrameBankBank {
         Ok(())
     }
 
-    fn write(&mut self, frame: u32, offset: u32, buffer: &[u8]) -> Result<(), Refusal> {
+    fn write(&mut self, frame: u32, offset: u32, buffer: &[u8]) -> Result<(), Refusal>
+        ensures step { λ r. ⌜ (r, frame-bank (S·Store .frames) (S·Store .byte) (now (self .exit))) ≡ writing frame offset (now (buffer .entry)) (frame-bank (S·Store .frames) (S·Store .byte) (now (self .entry))) ⌝ }
+        ensures idle { λ _. ⌜ (S·Store .frames (now (self .entry) .store) ≡ 0 → now (self .exit) .store ≡ now (self .entry) .store) ⌝ }
+    {
         if !fits(offset, buffer.len()) {
             return Err(Refusal::Edge);
         }
@@ -95,7 +121,12 @@ pub impl<S: Store> Bank for FrameBank<S> as FrameBankBank {
         Ok(())
     }
 
-    fn size(&mut self) -> u32 {
+    fn size(&mut self) -> u32
+        ensures size { λ r. ⌜ r ≡ frame-bank (S·Store .frames) (S·Store .byte) (now (self .entry)) .size ⌝ }
+        ensures few { λ r. ⌜ r ≤ most-frames ⌝ }
+        ensures same { λ _. ⌜ frame-bank (S·Store .frames) (S·Store .byte) (now (self .exit)) ≡ frame-bank (S·Store .frames) (S·Store .byte) (now (self .entry)) ⌝ }
+        ensures store { λ _. ⌜ now (self .exit) .store ≡ now (self .entry) .store ⌝ }
+    {
         self.store.frames()
     }
 }

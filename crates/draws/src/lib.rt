@@ -4,6 +4,10 @@ ghost use mathlib.Core.List.{[], _∷_};
 ghost use Prim.Native.Nat.{ℕ, _<_, _^_};
 ghost use Rattle.draws.specs.Draws.{next, begun, drawn};
 
+mod order;
+
+pub use order::shuffle;
+
 // The state of the draws. From a seed on it is never zero, since xorshift32 would stay at zero for ever.
 #[derive(Clone, Copy, PartialEq, Eq, Debug)]
 pub struct Draws {

@@ -13,7 +13,13 @@ use Rattle.std.proofs.shelf.Lists.{drop-more, drop-all, set-at, set-getD, getD-
 use Rattle.std.proofs.shelf.Tests.{cond-true, eq-eqb}
 use Rattle.std.specs.declared.result.Result.the-variants.{Ok}
 use Rattle.joining.specs.Laws.{Commutes, Groups, Leaves}
-use Rattle.joining.specs.Rows.{before, rows, rows-joined, joined-or-clash, over}
+use Rattle.joining.specs.Rows.{before, rows, rows-joined, joined-or-clash}
+
+-- each element of the first row with the join written over it, and left where it clashes
+abbrev pub over : {X : Type 0} → (X → X → Option X) → List X → List X → List X
+over join [] ys = []
+over join (x ∷ xs) [] = x ∷ xs
+over join (x ∷ xs) (y ∷ ys) = valueOr (join x y) x ∷ over join xs ys
 
 module _ {X : Type 0} where
   -- a row that was put together has both parts

@@ -4,7 +4,6 @@ use mathlib.Core.Bool.{cond}
 use mathlib.Core.List.{List, [], _∷_}
 use lib.Dec.{eqb}
 use lib.ListN.{length, replicate}
-use Rattle.std.specs.Options.{valueOr}
 use Rattle.std.specs.declared.option.Option.{Option}
 use Rattle.std.specs.declared.option.Option.the-variants.{Some, None}
 use Rattle.std.specs.declared.result.Result.{Result}
@@ -39,9 +38,3 @@ rows-joined join first second =
 abbrev pub Rows-keep-laws : {X : Type 0} → (X → X → Option X) → X → Type 0
 Rows-keep-laws {X} join none =
     Commutes (rows join) × Groups (rows join) × ((xs : List X) → rows join (replicate (length xs) none) xs ≡ Some xs)
-
--- each element of the first row with the join written over it, and left where it clashes
-abbrev pub over : {X : Type 0} → (X → X → Option X) → List X → List X → List X
-over join [] ys = []
-over join (x ∷ xs) [] = x ∷ xs
-over join (x ∷ xs) (y ∷ ys) = valueOr (join x y) x ∷ over join xs ys

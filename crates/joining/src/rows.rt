@@ -1,8 +1,10 @@
 // The joining of two rows: one text for every kind of element that joins.
 ghost use mathlib.Core.Path.{_≡_};
 ghost use lib.ListN.{length};
+ghost use mathlib.Core.Bool.{true};
 ghost use Rattle.std.specs.Options.{isSome};
-ghost use Rattle.joining.specs.Rows.{rows as row-join, rows-joined, over, Rows-keep-laws};
+ghost use Rattle.std.specs.declared.result.Result.the-variants.{Ok};
+ghost use Rattle.joining.specs.Rows.{rows as row-join, rows-joined, Rows-keep-laws};
 use crate::element::Join;
 use refusal::Refusal;
 
@@ -34,10 +36,11 @@ fn rows_join<T: Join + Copy>(first: &[T], second: &[T]) -> bool
     true
 }
 
-// Writes the join over each element of the first row; one that clashes would stay.
+// Writes the join over each element of the first row. The rows have been found to join.
 fn write_joined<T: Join + Copy>(first: &mut [T], second: &[T])
-    requires { ⌜ length (now first) ≡ length (now second) ⌝ }
-    ensures { λ _. ⌜ now (first .exit) ≡ over (T·Join .joined) (now (first .entry)) (now (second .entry)) ⌝ }
+    requires same { ⌜ length (now first) ≡ length (now second) ⌝ }
+    requires joins { ⌜ isSome (row-join (T·Join .joined) (now first) (now second)) ≡ true ⌝ }
+    ensures { λ _. ⌜ (Ok tt, now (first .exit)) ≡ rows-joined (T·Join .joined) (now (first .entry)) (now (second .entry)) ⌝ }
 {
     for i in 0..first.len() {
         if let Some(both) = first[i].join(second[i]) {

@@ -2,7 +2,8 @@ use mathlib.Core.Path.{_≡_, _∙_}
 use native.Mathlib.Omega.{arith}
 use lib.ListN.{set}
 use Rattle.std.specs.Options.{valueOr}
-use Rattle.joining.proofs.Places.{over-more, over-some, over-none, over-all}
+use Rattle.std.specs.declared.result.Result.the-variants.{Ok}
+use Rattle.joining.proofs.Places.{over-more, over-some, over-none, over-all, answers-joined}
 use Rattle.joining.proofs.rows.write_joined.Needs as need
 use Rattle.joining.proofs.rows.write_joined.Needs.{in-Some, in-rest}
 
@@ -25,9 +26,10 @@ loop-i-again g c =
     in
     written
     ∙ over-more (g .T·Join .joined) (c .args .first .now) (c .args .second .now) (c .loop-i .first) (c .loop-i .i)
-    (c .index-first-i .result) (c .index-second-i .result) (c .pre) (omega arith) (c .loop-i .inv)
+    (c .index-first-i .result) (c .index-second-i .result) (c .pre .same) (omega arith) (c .loop-i .inv)
     (c .index-first-i .is) (c .index-second-i .is)
 
 pub returns : need.returns
 returns g c =
-    over-all (g .T·Join .joined) (c .args .first .now) (c .args .second .now) (c .loop-i .first) (c .loop-i .i) (omega arith) (c .loop-i .inv)
+    let is = over-all (g .T·Join .joined) (c .args .first .now) (c .args .second .now) (c .loop-i .first) (c .loop-i .i) (omega arith) (c .loop-i .inv) in
+    (λ i. (Ok tt, is i)) ∙ answers-joined (g .T·Join .joined) (c .args .first .now) (c .args .second .now) (c .pre .same) (c .pre .joins)

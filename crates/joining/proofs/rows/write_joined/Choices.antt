@@ -1,7 +1,7 @@
 use mathlib.Core.Path.{_≡_}
 use mathlib.Core.List.{_++_}
 use lib.ListN.{take, drop}
-use Rattle.joining.specs.Rows.{over}
+use Rattle.joining.proofs.Places.{over}
 use Rattle.joining.proofs.rows.write_joined.Given as given
 
 -- the joins are written up to here, and the rest is as it was

@@ -1,10 +1,10 @@
 use native.Mathlib.Omega.{arith}
-use mathlib.Core.Path.{_∙_, ap}
+use mathlib.Core.Path.{refl, _∙_, ap}
 use lib.ListN.{replicate}
 use Rattle.bank.specs.Tables.{poke}
 use Rattle.banks.specs.Spares.{marked, link}
 use Rattle.banks.proofs.Chains.{length-chain}
-use Rattle.banks.proofs.Steps.{bank-give-back, bank-keep}
+use Rattle.banks.proofs.Steps.{bank-give-back, bank-keep, none-out}
 use Rattle.banks.proofs.frames.FrameBankBank.give_back.Needs as need
 
 pub returns-then-not-is-out : need.returns-then-not-is-out
@@ -17,6 +17,7 @@ returns-then-not-is-out g c =
           bank-keep n (c .frames-frames .result) (g .S·Store .byte store) spares (c .args .frame)
           (c .frames-frames .ensures .value) (c .if-not-is-out .ensures tt);
       few = omega (arith, length-chain n (marked n spares) (link spares) (spares .head));
+      idle = λ none. refl;
     }
 
 pub returns : need.returns
@@ -33,4 +34,5 @@ returns g c =
           (c .clear .ensures .bytes ∙ ap (λ at. poke byte at (replicate 1024 0)) (c .place .ensures))
           (c .put-first .ensures .list) (c .put-first .ensures .marks);
       few = omega (arith, length-chain n (marked n spares) (link spares) (spares .head));
+      idle = λ none. absurd (none-out n (c .frames-frames .result) spares (c .args .frame) (c .frames-frames .ensures .value) (c .if-not-is-out .ensures tt) none);
     }

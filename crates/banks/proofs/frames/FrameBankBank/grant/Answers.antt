@@ -1,3 +1,4 @@
+use mathlib.Core.Path.{refl}
 use native.Mathlib.Omega.{arith}
 use Rattle.banks.proofs.Steps.{bank-grant}
 use Rattle.banks.proofs.frames.FrameBankBank.grant.Needs as need
@@ -11,4 +12,5 @@ returns g c =
           (c .args .self .now .spares) (c .take .last .self) (c .take .result) (c .frames-frames .ensures .value)
           (c .take .ensures .step);
       bound = λ f e. omega (arith, c .take .ensures .below f e);
+      store = refl;
     }

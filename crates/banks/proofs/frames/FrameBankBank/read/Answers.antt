@@ -15,4 +15,5 @@ returns g c =
           (c .frames-frames .ensures .value) (c .if-not-fits .ensures tt) (c .if-not-is-out .ensures tt)
           (c .read .ensures ∙ ap (λ at. peek byte at (length (c .args .buffer .now))) (c .place .ensures));
       same = refl;
+      store = refl;
     }

@@ -5,8 +5,8 @@ use Rattle.bank.specs.Tables.{poke}
 use Rattle.banks.proofs.Steps.{bank-reset, counting-proper}
 use Rattle.banks.proofs.frames.FrameBankBank.reset.Needs as need
 
-pub returns : need.returns
-returns g c =
+pub returns-then-frames-gt0 : need.returns-then-frames-gt0
+returns-then-frames-gt0 g c =
     let store = c .args .self .now .store in
     let byte = g .S·Store .byte store in
     record {
@@ -18,4 +18,5 @@ returns g c =
           (c .opening-self .ensures .list) (c .opening-self .ensures .none);
       few = omega arith;
       proper = counting-proper (g .S·Store .frames store) (g .S·Store .frames store) 0 (omega arith);
+      idle = λ none. absurd (omega arith);
     }

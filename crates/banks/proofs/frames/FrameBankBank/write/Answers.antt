@@ -1,14 +1,21 @@
 use mathlib.Core.Path.{_∙_, ap}
 use Rattle.bank.specs.Tables.{poke}
-use Rattle.banks.proofs.Steps.{bank-write}
+use Rattle.banks.proofs.Steps.{bank-write, none-out}
 use Rattle.banks.proofs.frames.FrameBankBank.write.Needs as need
 
 pub returns : need.returns
 returns g c =
     let store = c .args .self .now .store in
+    let spares = c .args .self .now .spares in
+    let n = g .S·Store .frames store in
     let byte = g .S·Store .byte store in
-    bank-write (g .S·Store .frames store) (g .S·Store .frames (c .write .last .self)) (c .frames-frames .result) byte
-    (g .S·Store .byte (c .write .last .self)) (c .args .self .now .spares) (c .args .frame) (c .args .offset)
-    (c .args .buffer .now) (c .frames-frames .ensures .value) (c .write .ensures .frames) (c .if-not-fits .ensures tt)
-    (c .if-not-is-out .ensures tt)
-    (c .write .ensures .bytes ∙ ap (λ at. poke byte at (c .args .buffer .now)) (c .place .ensures))
+    record {
+      step =
+          bank-write n (g .S·Store .frames (c .write .last .self)) (c .frames-frames .result) byte
+          (g .S·Store .byte (c .write .last .self)) spares (c .args .frame) (c .args .offset) (c .args .buffer .now)
+          (c .frames-frames .ensures .value) (c .write .ensures .frames) (c .if-not-fits .ensures tt)
+          (c .if-not-is-out .ensures tt)
+          (c .write .ensures .bytes ∙ ap (λ at. poke byte at (c .args .buffer .now)) (c .place .ensures));
+      idle = λ none.
+          absurd (none-out n (c .frames-frames .result) spares (c .args .frame) (c .frames-frames .ensures .value) (c .if-not-is-out .ensures tt) none);
+    }

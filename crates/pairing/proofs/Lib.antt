@@ -1,0 +1,5 @@
+pub mod Folds
+pub mod Law
+pub mod Marks
+pub mod Turns
+pub mod Split
