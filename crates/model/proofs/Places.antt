@@ -30,6 +30,10 @@ counting-push : (n : ℕ) → counting 0 (n + 1) ≡ counting 0 n ++ (n ∷ [])
 counting-push n =
     ap (counting 0) (add-one n) ∙ counting-more 0 n ∙ ap (λ k. counting 0 n ++ (k ∷ [])) (omega arith)
 
+-- a loop that lists the places that pass
+pub kept-more : (test : ℕ → Bool) (n : ℕ) → kept-by test (counting 0 (n + 1)) ≡ kept-by test (counting 0 n) ++ cond (test n) (n ∷ []) []
+kept-more test n = ap (kept-by test) (counting-push n) ∙ kept-by-append test (counting 0 n) (n ∷ [])
+
 one-or-none : (t : Bool) (n : ℕ) → length (cond t (n ∷ []) []) ≡ cond t 1 0
 one-or-none true n = refl
 one-or-none false n = refl
@@ -38,7 +42,7 @@ one-or-none false n = refl
 pub tally-more : (n : ℕ) (test : ℕ → Bool) → tally (n + 1) test ≡ tally n test + cond (test n) 1 0
 unfolding tally
 tally-more n test =
-    ap (λ ps. length (kept-by test ps)) (counting-push n) ∙ ap length (kept-by-append test (counting 0 n) (n ∷ []))
+    ap length (kept-more test n)
     ∙ length-append (kept-by test (counting 0 n)) (kept-by test (n ∷ []))
     ∙ ap (λ k. length (kept-by test (counting 0 n)) + k) (one-or-none (test n) n)
 

@@ -26,8 +26,8 @@ use model::Row;
 use refusal::Refusal;
 use std::alloc::AllocError;
 use std::alloc::Global;
-use tables::geometry::FRAME_BYTES;
 use tables::geometry::LONGEST;
+use tables::geometry::address_of;
 use tables::geometry::class_of;
 use tables::geometry::slot_start;
 use tables::geometry::slots;
@@ -126,7 +126,7 @@ impl<B: Bank, P> Pool<B, P> {
         };
         self.labels.set(label, Some(patch));
         Made {
-            address: FRAME_BYTES * row.home as u32 + slot_start(length, slot),
+            address: address_of(patch),
             opened,
         }
     }
@@ -177,7 +177,7 @@ impl<B: Bank, P> Pool<B, P> {
         let Some(patch) = self.labels.patch(label) else {
             return Err(Refusal::Absent);
         };
-        Ok(FRAME_BYTES * patch.span as u32 + slot_start(patch.length, patch.slot))
+        Ok(address_of(patch))
     }
 
     // How many frames are out, how many spans are not idle, and how many labels are live.

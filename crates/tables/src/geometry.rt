@@ -1,10 +1,14 @@
 // The sizes of the desktop unit: classes of slots, and where a slot lies in its frame.
 ghost use mathlib.Core.Path.{_≡_};
 ghost use Prim.Native.Nat.{ℕ, _+_, _*_, _<_, _≤_};
-ghost use Rattle.model.specs.Geometry.{desktop, class-of as class-for, slot-size, slots as slots-of, slot-offset};
+ghost use Rattle.model.specs.Geometry.{desktop, class-of as class-for, slot-size, slots as slots-of, slot-offset, address-of as address-in};
+use model::Patch;
 
 // The bytes of a frame, and of a span.
 pub const FRAME_BYTES: u32 = 1024;
+
+// The addresses of all spans lie below this.
+pub const ADDRESSES: u32 = 131072;
 
 // The longest patch, which fills a slot of the last class.
 pub const LONGEST: u32 = 512;
@@ -55,4 +59,12 @@ pub fn slot_start(length: u16, slot: u8) -> u32
     ensures high { λ r. ⌜ r ≤ 1024 * slot ⌝ }
 {
     slot_size(class_of(length)) * slot as u32
+}
+
+// The address of a patch: spans lie end to end, each as long as a frame.
+pub fn address_of(patch: Patch) -> u32
+    ensures address { λ r. ⌜ r ≡ address-in desktop patch ⌝ }
+    ensures high { λ r. ⌜ r ≤ 2048 * 255 ⌝ }
+{
+    FRAME_BYTES * patch.span as u32 + slot_start(patch.length, patch.slot)
 }

@@ -1,11 +1,15 @@
 // The label table: the patch of each live label.
 ghost use mathlib.Core.Path.{_≡_};
+ghost use mathlib.Core.Bool.{_&&_};
+ghost use Prim.Native.Nat.{_+_, _*_, _≤_};
+ghost use lib.Dec.{leb, ltb};
 ghost use Rattle.std.specs.Options.{isSome};
 ghost use Rattle.std.specs.declared.option.Option.the-variants.{Some, None};
 ghost use Rattle.bank.specs.Tables.{put};
 ghost use Rattle.model.specs.Geometry.{desktop};
-ghost use Rattle.model.specs.Calls.{tally};
+ghost use Rattle.model.specs.Calls.{tally, holds as holds-in, owner as owner-of};
 ghost use Rattle.tables.specs.Views.{labels-of};
+use crate::geometry::address_of;
 use model::Patch;
 
 #[derive(Drop)]
@@ -47,4 +51,35 @@ impl Labels {
         }
         live
     }
+
+    // The lowest label whose patch holds so many bytes from the address on.
+    pub fn owner(&self, address: u32, count: usize) -> Option<u8>
+        ensures { λ r. ⌜ r ≡ owner-of desktop address count (labels-of (now (self .entry))) ⌝ }
+    {
+        for (label, patch) in self.table.iter().enumerate() {
+            if holds(patch, address, count) {
+                return Some(label as u8);
+            }
+        }
+        None
+    }
+}
+
+// Whether a patch's bytes include the address and so many bytes from there.
+fn holds(patch: &Option<Patch>, address: u32, count: usize) -> bool
+    ensures { λ r. ⌜ r ≡ holds-in desktop address count (now (patch .entry)) ⌝ }
+{
+    match patch {
+        Some(patch) => lies_in(address, count, address_of(*patch), patch.length),
+        None => false,
+    }
+}
+
+// Whether the address and so many bytes from there lie in a stretch.
+fn lies_in(address: u32, count: usize, start: u32, length: u16) -> bool
+    requires { ⌜ start ≤ 2048 * 255 ⌝ }
+    ensures { λ r. ⌜ r ≡ (leb start address && (ltb address (start + length) && leb (address + count) (start + length))) ⌝ }
+{
+    let end = start + length as u32;
+    start <= address && address < end && count <= (end - address) as usize
 }

@@ -1,9 +1,9 @@
 // The frame table: the row of each frame that is out.
 ghost use mathlib.Core.Path.{_≡_};
 ghost use mathlib.Core.Bool.{true};
-ghost use Prim.Native.Nat.{ℕ, _<_};
+ghost use Prim.Native.Nat.{ℕ, _<_, _≤_};
 ghost use lib.Dec.{ltb};
-ghost use lib.ListN.{getD, set as set-at, replicate};
+ghost use lib.ListN.{length, take, getD, set as set-at, replicate};
 ghost use ghost.Atoms.{sem};
 ghost use denote.Follow.{follows-if};
 ghost use denote.Ref.{name};
@@ -18,6 +18,7 @@ ghost use Rattle.model.specs.contracts.Row.{the-row as row-row};
 ghost use Rattle.tables.specs.contracts.rows.Rows.{the-row as table-row};
 ghost use Rattle.model.specs.Geometry.{desktop};
 ghost use Rattle.model.specs.Calls.{tally, serving as best-serving, serves as row-serves, better as better-of};
+ghost use Rattle.model.specs.Mesh.{of-class, mask-of, masks-of, listed};
 ghost use Rattle.tables.specs.Views.{rows-of};
 use crate::geometry::slots;
 use crate::masks::occupied;
@@ -80,6 +81,32 @@ impl Rows {
         best
     }
 
+    // Lists the frames of a class in rising number, from the buffer's start, and answers how many there are.
+    pub fn list(&self, class: u8, frames: &mut [u32]) -> usize
+        requires { ⌜ length (now frames) ≡ 64 ⌝ }
+        ensures few { λ r. ⌜ r ≤ 64 ⌝ }
+        ensures frames { λ r. ⌜ take r (now (frames .exit)) ≡ listed desktop class (rows-of (now (self .entry))) ⌝ }
+    {
+        let mut count = 0;
+        for frame in 0..64u32 {
+            if is_of_class(class, self.row(frame)) {
+                frames[count] = frame;
+                count += 1;
+            }
+        }
+        count
+    }
+
+    // The masks of frames.
+    pub fn masks(&self, frames: &[u32], masks: &mut [u64])
+        requires { ⌜ length (now masks) ≡ length (now frames) ⌝ }
+        ensures { λ _. ⌜ now (masks .exit) ≡ masks-of (rows-of (now (self .entry))) (now (frames .entry)) ⌝ }
+    {
+        for i in 0..frames.len() {
+            masks[i] = mask_or_none(self.row(frames[i]));
+        }
+    }
+
     // How many frames are out.
     pub fn out(&self) -> u32
         ensures { λ r. ⌜ r ≡ tally (desktop .frames) (λ f. isSome (getD (rows-of (now (self .entry))) f None)) ⌝ }
@@ -120,5 +147,25 @@ fn better(class: u8, frame: u32, row: Option<Row>, held: Option<(u32, Row)>) -> 
                 Some((best, best_row))
             }
         }
+    }
+}
+
+// Whether there is a row, of the class.
+fn is_of_class(class: u8, row: Option<Row>) -> bool
+    ensures { λ r. ⌜ r ≡ of-class class row ⌝ }
+{
+    match row {
+        Some(row) => row.class == class,
+        None => false,
+    }
+}
+
+// The mask of a row; with no row, no slot is occupied.
+fn mask_or_none(row: Option<Row>) -> u64
+    ensures { λ r. ⌜ r ≡ mask-of row ⌝ }
+{
+    match row {
+        Some(row) => row.mask,
+        None => 0,
     }
 }

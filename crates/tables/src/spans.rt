@@ -1,13 +1,14 @@
 // The page map: what each span is.
 ghost use mathlib.Core.Path.{_≡_};
 ghost use mathlib.Core.Bool.{not};
+ghost use mathlib.Core.List.{map};
 ghost use Prim.Native.Nat.{ℕ, _<_};
 ghost use Rattle.std.specs.declared.option.Option.the-variants.{Some};
 ghost use Rattle.model.specs.declared.Span.the-variants.{Idle};
 ghost use Rattle.bank.specs.Tables.{put};
 ghost use Rattle.model.specs.Geometry.{desktop};
 ghost use Rattle.model.specs.State.{frame-of as frame-in, is-idle as idle, after};
-ghost use Rattle.model.specs.Calls.{tally, lowest-idle as lowest};
+ghost use Rattle.model.specs.Calls.{tally, lowest-idle as lowest, spans-after};
 ghost use Rattle.tables.specs.Views.{spans-of};
 use model::Event;
 use model::Span;
@@ -44,6 +45,15 @@ pub fn apply(span: &mut Span, event: Event)
             }
         }
         _ => {}
+    }
+}
+
+// Changes each span of a row as an event asks.
+fn apply_each(spans: &mut [Span], event: Event)
+    ensures { λ _. ⌜ now (spans .exit) ≡ map (after event) (now (spans .entry)) ⌝ }
+{
+    for span in spans.iter_mut() {
+        apply(span, event);
     }
 }
 
@@ -112,5 +122,27 @@ impl Spans {
             }
         }
         taken
+    }
+
+    // The source frame was laid onto the destination: its home and its aliases become aliases of the destination.
+    pub fn merge(&mut self, source: u32, destination: u32)
+        ensures { λ _. ⌜ spans-of (now (self .exit)) ≡ spans-after (Event.Merge source destination) (spans-of (now (self .entry))) ⌝ }
+    {
+        self.apply_to_all(Event::Merge(source, destination));
+    }
+
+    // A frame holds no patch any more: its home and its aliases become idle.
+    pub fn empty(&mut self, frame: u32)
+        ensures { λ _. ⌜ spans-of (now (self .exit)) ≡ spans-after (Event.Empty frame) (spans-of (now (self .entry))) ⌝ }
+    {
+        self.apply_to_all(Event::Empty(frame));
+    }
+
+    // Changes every span as an event asks that leaves idle spans idle.
+    fn apply_to_all(&mut self, event: Event)
+        requires { ⌜ after event Idle ≡ Idle ⌝ }
+        ensures { λ _. ⌜ spans-of (now (self .exit)) ≡ spans-after event (spans-of (now (self .entry))) ⌝ }
+    {
+        apply_each(&mut self.table, event);
     }
 }
