@@ -14,7 +14,7 @@ ghost use Rattle.draws.specs.Draws.{next};
 ghost use Rattle.model.specs.declared.Made.{Made as MadeOf};
 ghost use Rattle.model.specs.Geometry.{desktop, slots as slots-of};
 ghost use Rattle.model.specs.State.{State, opened as opened-pool};
-ghost use Rattle.model.specs.Calls.{occupied as occupied-in, placed, opening, lowest-idle, new as new-step, write as write-step, read as read-step, place as place-step, count as count-step};
+ghost use Rattle.model.specs.Calls.{occupied as occupied-in, placed, opening, lowest-idle, new as new-step, write as write-step, read as read-step, fetch as fetch-step, place as place-step, count as count-step};
 ghost use Rattle.pool.specs.View.{state-of};
 use crate::Pool;
 use bank::Bank;
@@ -26,6 +26,7 @@ use model::Row;
 use refusal::Refusal;
 use std::alloc::AllocError;
 use std::alloc::Global;
+use tables::geometry::ADDRESSES;
 use tables::geometry::LONGEST;
 use tables::geometry::address_of;
 use tables::geometry::class_of;
@@ -167,6 +168,29 @@ impl<B: Bank, P> Pool<B, P> {
         };
         let start = slot_start(patch.length, patch.slot) + offset;
         self.bank.read(frame, start, buffer)
+    }
+
+    // Fills the buffer with the bytes from an address on, which have to lie in one live patch.
+    //
+    // ADDRESS for an address past the last span, STRAY where no live patch holds the address and the whole stretch.
+    pub fn fetch(&mut self, address: u32, buffer: &mut [u8]) -> Result<(), Refusal>
+        ensures step { λ r. ⌜ (r, now (buffer .exit)) ≡ fetch-step desktop address (now (buffer .entry)) (state-of (B·Bank .model) (now (self .entry))) ⌝ }
+        ensures same { λ _. ⌜ state-of (B·Bank .model) (now (self .exit)) ≡ state-of (B·Bank .model) (now (self .entry)) ⌝ }
+    {
+        if address >= ADDRESSES {
+            return Err(Refusal::Address);
+        }
+        let Some(label) = self.labels.owner(address, buffer.len()) else {
+            return Err(Refusal::Stray);
+        };
+        let Some(patch) = self.labels.patch(label) else {
+            return Err(Refusal::Stray);
+        };
+        let Some(frame) = self.spans.frame(patch.span) else {
+            return Err(Refusal::NotOut);
+        };
+        let offset = address.saturating_sub(address_of(patch));
+        self.bank.read(frame, slot_start(patch.length, patch.slot) + offset, buffer)
     }
 
     // The address of the label's patch; ABSENT for a label that is not live.

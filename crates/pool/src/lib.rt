@@ -1,5 +1,7 @@
 // The pool: patches under labels, in slots of frames of a bank, at addresses that never change.
 mod calls;
+mod leaves;
+mod meshes;
 
 use draws::Draws;
 use tables::labels::Labels;

@@ -105,6 +105,6 @@ module _ (test : ℕ → Bool) (n count : ℕ) (row : List ℕ) (so-far : take c
       ∙ sym (kept-more test n ∙ ap (λ t. kept-by test (counting 0 n) ++ cond t (n ∷ []) []) fails ∙ append-nil (kept-by test (counting 0 n)))
 
 -- a row that was filled place by place from another
-pub filled-by : (f : ℕ → ℕ) (xs ys : List ℕ) → length ys ≡ length xs → ((k : ℕ) → k < length xs → getD ys k 0 ≡ f (getD xs k 0)) → ys ≡ map f xs
-filled-by f xs ys long each =
-    ext-getD 0 ys (map f xs) (long ∙ sym (length-map xs f)) (λ k below. each k (omega arith) ∙ sym (getD-map f xs k 0 0 (omega arith)))
+pub filled-by : {A B : Type 0} (d : A) (e : B) (f : A → B) (xs : List A) (ys : List B) → length ys ≡ length xs → ((k : ℕ) → k < length xs → getD ys k e ≡ f (getD xs k d)) → ys ≡ map f xs
+filled-by d e f xs ys long each =
+    ext-getD e ys (map f xs) (long ∙ sym (length-map xs f)) (λ k below. each k (omega arith) ∙ sym (getD-map f xs k d e (omega arith)))

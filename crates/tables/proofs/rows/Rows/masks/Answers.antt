@@ -8,5 +8,5 @@ use Rattle.tables.proofs.rows.Rows.masks.Needs as need
 
 pub returns : need.returns
 returns c =
-    filled-by (λ f. mask-of (getD (rows-of (c .args .self .now)) f None)) (c .args .frames .now) (c .loop-i .masks) (c .loop-i .inv .0)
+    filled-by 0 0 (λ f. mask-of (getD (rows-of (c .args .self .now)) f None)) (c .args .frames .now) (c .loop-i .masks) (c .loop-i .inv .0)
     (λ k below. c .loop-i .inv .1 k (omega arith))
