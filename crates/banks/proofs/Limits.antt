@@ -34,11 +34,11 @@ granted : (limit n : ℕ) (l : List ℕ) (m m′ : BankState) (f : ℕ) → _≡
 granted limit n [] m m′ f e = accepted-refused f Frames m m′ e
 granted limit n (x ∷ rest) m m′ f e = ap (λ (y : Result ℕ Refusal × BankState). (y .0, limited limit n (y .1))) e
 
-pub limited-grant : (limit left : ℕ) (m m′ : BankState) (f : ℕ) → 0 < left → _≡_ {A = Result ℕ Refusal × BankState} (Ok f, m′) (grant m) → _≡_ {A = Result ℕ Refusal × BankState} (Ok f, limited limit (left - 1) m′) (grant (limited limit left m))
-limited-grant limit left m m′ f some e =
-    let back : suc (left - 1) ≡ left = omega arith in
-    subst (λ k. _≡_ {A = Result ℕ Refusal × BankState} (Ok f, limited limit (left - 1) m′) (grant (limited limit k m))) back
-    (granted limit (left - 1) (m .spare) m m′ f e)
+pub limited-grant : (limit left left′ : ℕ) (m m′ : BankState) (f : ℕ) → 0 < left → left′ ≡ left - 1 → _≡_ {A = Result ℕ Refusal × BankState} (Ok f, m′) (grant m) → _≡_ {A = Result ℕ Refusal × BankState} (Ok f, limited limit left′ m′) (grant (limited limit left m))
+limited-grant limit left left′ m m′ f some less e =
+    let back : suc left′ ≡ left = omega arith in
+    subst (λ k. _≡_ {A = Result ℕ Refusal × BankState} (Ok f, limited limit left′ m′) (grant (limited limit k m))) back
+    (granted limit left′ (m .spare) m m′ f e)
 
 refused : (limit n : ℕ) (l : List ℕ) (m m′ : BankState) (r : Refusal) → _≡_ {A = Result ℕ Refusal × BankState} (Err r, m′) (granting l m) → _≡_ {A = Result ℕ Refusal × BankState} (Err r, limited limit n m′) (granting (take n l) (limited limit n m))
 refused limit zero [] m m′ r e = ap (λ (y : Result ℕ Refusal × BankState). (y .0, limited limit zero (y .1))) e
@@ -135,8 +135,9 @@ balance-granting limit left (x ∷ rest) m m′ f spare some s b e =
     let small = b .0 in
     let sum = b .1 in (small, omega arith)
 
-pub balance-grant : (limit left : ℕ) (m m′ : BankState) (f : ℕ) → 0 < left → _≡_ {A = Result ℕ Refusal × BankState} (Ok f, m′) (grant m) → Sound m → Balanced limit left m → Balanced limit (left - 1) m′
-balance-grant limit left m m′ f some e s b = balance-granting limit left (m .spare) m m′ f refl some s b e
+pub balance-grant : (limit left left′ : ℕ) (m m′ : BankState) (f : ℕ) → 0 < left → left′ ≡ left - 1 → _≡_ {A = Result ℕ Refusal × BankState} (Ok f, m′) (grant m) → Sound m → Balanced limit left m → Balanced limit left′ m′
+balance-grant limit left left′ m m′ f some less e s b =
+    subst (λ k. Balanced limit k m′) (sym less) (balance-granting limit left (m .spare) m m′ f refl some s b e)
 
 balance-refusing : (limit left : ℕ) (l : List ℕ) (m m′ : BankState) (r : Refusal) → _≡_ {A = Result ℕ Refusal × BankState} (Err r, m′) (granting l m) → Balanced limit left m → Balanced limit left m′
 balance-refusing limit left [] m m′ r e b =

@@ -83,7 +83,7 @@ taken-out n s l h =
     none (x ∷ l) e = let z : _≡_ {A = ℕ} 0 1 = cc in absurd (omega arith)
 
 -- taking the first spare frame
-pub taken-first : (n head : ℕ) (next : List ℕ) (out : List Bool) → head < n → head < length out → getD out head false ≡ false → _≡_ {A = Result ℕ Refusal × List ℕ × (ℕ → Bool)} (Ok head, listed n (record { head = getD next head 0; next = next; out = set out head true }), marked n (record { head = getD next head 0; next = next; out = set out head true })) (taken (listed n (record { head = head; next = next; out = out })) (marked n (record { head = head; next = next; out = out })))
+taken-first : (n head : ℕ) (next : List ℕ) (out : List Bool) → head < n → head < length out → getD out head false ≡ false → _≡_ {A = Result ℕ Refusal × List ℕ × (ℕ → Bool)} (Ok head, listed n (record { head = getD next head 0; next = next; out = set out head true }), marked n (record { head = getD next head 0; next = next; out = set out head true })) (taken (listed n (record { head = head; next = next; out = out })) (marked n (record { head = head; next = next; out = out })))
 taken-first n head next out l h clear =
     let marks : ℕ → Bool = λ q. ltb q n && getD out q false in
     let links : ℕ → ℕ = λ q. getD next q 0 in
@@ -93,6 +93,14 @@ taken-first n head next out l h clear =
     let after : _≡_ {A = Result ℕ Refusal × List ℕ × (ℕ → Bool)} (Ok head, chain n (λ q. ltb q n && getD (set out head true) q false) links (links head), (λ q. ltb q n && getD (set out head true) q false)) (Ok head, chain n (put marks head true) links (links head), put marks head true) =
     ap (λ (m : ℕ → Bool). (Ok head, chain n m links (links head), m)) puts in
     after ∙ sym (ap (λ rest. taken rest marks) goes)
+
+-- the same, where the mark and the link came by calls of their own
+pub taken-next : (n : ℕ) (s t : Spares) (next : ℕ) → s .head < n → s .head < length (s .out) → getD (s .out) (s .head) false ≡ false → next ≡ link s (s .head) → t ≡ record { head = s .head; next = s .next; out = set (s .out) (s .head) true } → _≡_ {A = Result ℕ Refusal × List ℕ × (ℕ → Bool)} (Ok (s .head), listed n (record { head = next; next = t .next; out = t .out }), marked n (record { head = next; next = t .next; out = t .out })) (taken (listed n s) (marked n s))
+taken-next n s t next l h clear linked mark =
+    let led : Spares → Spares = λ x. record { head = next; next = x .next; out = x .out } in
+    let headed : ℕ → Spares = λ k. record { head = k; next = s .next; out = set (s .out) (s .head) true } in
+    let shown : Spares → Result ℕ Refusal × List ℕ × (ℕ → Bool) = λ x. (Ok (s .head), listed n x, marked n x) in
+    ap shown (ap led mark ∙ ap headed linked) ∙ taken-first n (s .head) (s .next) (s .out) l h clear
 
 -- putting a frame first that was out
 pub first-list : (n f head : ℕ) (next : List ℕ) (out : List Bool) → f < length out → f < length next → marked n (record { head = head; next = next; out = out }) f ≡ true → listed n (record { head = f; next = set next f head; out = set out f false }) ≡ f ∷ listed n (record { head = head; next = next; out = out })

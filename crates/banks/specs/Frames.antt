@@ -35,8 +35,8 @@ pub record EndToEnd (memory : List ℕ) (m : BankState) : Type 0 where
   pub byte : (f i : ℕ) → f < m .size → i < frame-bytes → m .bytes f i ≡ getD memory (frame-bytes * f + i) 0
 
 -- In every value of a flat bank the memory is its frames end to end.
-abbrev pub Flat-lies : Type 0
-Flat-lies = (memory : List ℕ) (s : Spares) → EndToEnd memory (flat-bank memory s)
+abbrev pub Flat-end-to-end : Type 0
+Flat-end-to-end = (memory : List ℕ) (s : Spares) → EndToEnd memory (flat-bank memory s)
 
 -- what the lane bank means: the flat bank over its two memories woven
 abbrev pub lane-bank : List ℕ → List ℕ → Spares → BankState
@@ -51,5 +51,5 @@ pub record InLanes (first second : List ℕ) (m : BankState) : Type 0 where
   pub odd-byte : (f i : ℕ) → f < m .size → i < frame-bytes → i % 2 ≡ 1 → m .bytes f i ≡ getD second (512 * f + i / 2) 0
 
 -- In every value of a lane bank the memories are its frames' lanes.
-abbrev pub Lanes-lie : Type 0
-Lanes-lie = (first second : List ℕ) (s : Spares) → InLanes first second (lane-bank first second s)
+abbrev pub Lanes-end-to-end : Type 0
+Lanes-end-to-end = (first second : List ℕ) (s : Spares) → InLanes first second (lane-bank first second s)

@@ -5,7 +5,7 @@ ghost use Prim.Native.Nat.{ℕ, _*_, _≤_};
 ghost use lib.ListN.{length, getD};
 ghost use Rattle.bank.specs.Sound.{Sound};
 ghost use Rattle.banks.specs.Memory.{whole-frames, checked, cleared};
-ghost use Rattle.banks.specs.Frames.{flat-bank, fresh, Flat-lies};
+ghost use Rattle.banks.specs.Frames.{flat-bank, fresh, Flat-end-to-end};
 use super::frames::FrameBank;
 use super::frames::opened;
 use super::spares::Spares;
@@ -94,8 +94,8 @@ pub(super) fn clear_if(frames: u32, memory: &mut [u8])
 }
 
 // The memory of a flat bank is its frames end to end, after any call.
-pub fn flat_lies() -> u8
-    ensures { λ _. ⌜ Flat-lies ⌝ }
+pub fn flat_is_end_to_end() -> u8
+    ensures { λ _. ⌜ Flat-end-to-end ⌝ }
 {
     0
 }

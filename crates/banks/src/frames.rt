@@ -1,7 +1,8 @@
 // A bank over a store of bytes. Flat and lane banks differ in their store alone.
 ghost use mathlib.Core.Path.{_≡_};
 ghost use Prim.Native.Nat.{ℕ, _+_, _<_, _≤_};
-ghost use lib.ListN.{length};
+ghost use lib.ListN.{length, replicate};
+ghost use Rattle.bank.specs.Tables.{peek, poke};
 ghost use Rattle.std.specs.declared.result.Result.the-variants.{Ok};
 ghost use mathlib.Core.Bool.{false};
 ghost use Rattle.std.specs.Iters.{counting};
@@ -51,6 +52,34 @@ fn fits(offset: u32, bytes: usize) -> bool
     offset <= FRAME_BYTES && bytes <= (FRAME_BYTES - offset) as usize
 }
 
+// Clears `count` frames of a store, from one on.
+fn clear_frames<S: Store>(store: &mut S, from: u32, count: u32)
+    requires { ⌜ from + count ≤ S·Store .frames (now store) ⌝ }
+    ensures frames { λ _. ⌜ S·Store .frames (now (store .exit)) ≡ S·Store .frames (now (store .entry)) ⌝ }
+    ensures bytes { λ _. ⌜ S·Store .byte (now (store .exit)) ≡ poke (S·Store .byte (now (store .entry))) (place-of from 0) (replicate (place-of count 0) 0) ⌝ }
+{
+    store.clear(place(from, 0), place(count, 0));
+}
+
+// Fills the buffer with the bytes of one frame of a store.
+fn read_frame<S: Store>(store: &S, frame: u32, offset: u32, buffer: &mut [u8])
+    requires frame { ⌜ frame < S·Store .frames (now store) ⌝ }
+    requires fits { ⌜ offset + length (now buffer) ≤ frame-bytes ⌝ }
+    ensures { λ _. ⌜ now (buffer .exit) ≡ peek (S·Store .byte (now (store .entry))) (place-of frame offset) (length (now (buffer .entry))) ⌝ }
+{
+    store.read(place(frame, offset), buffer);
+}
+
+// Puts the buffer over the bytes of one frame of a store.
+fn write_frame<S: Store>(store: &mut S, frame: u32, offset: u32, buffer: &[u8])
+    requires frame { ⌜ frame < S·Store .frames (now store) ⌝ }
+    requires fits { ⌜ offset + length (now buffer) ≤ frame-bytes ⌝ }
+    ensures frames { λ _. ⌜ S·Store .frames (now (store .exit)) ≡ S·Store .frames (now (store .entry)) ⌝ }
+    ensures bytes { λ _. ⌜ S·Store .byte (now (store .exit)) ≡ poke (S·Store .byte (now (store .entry))) (place-of frame offset) (now (buffer .entry)) ⌝ }
+{
+    store.write(place(frame, offset), buffer);
+}
+
 pub impl<S: Store> Bank for FrameBank<S> as FrameBankBank {
     ghost model = { frame-bank (S·Store .frames) (S·Store .byte) };
 
@@ -63,7 +92,7 @@ pub impl<S: Store> Bank for FrameBank<S> as FrameBankBank {
         self.spares = Spares::opening();
         let frames = self.store.frames();
         if frames > 0 {
-            self.store.clear(0, place(frames, 0));
+            clear_frames(&mut self.store, 0, frames);
         }
     }
 
@@ -85,7 +114,7 @@ pub impl<S: Store> Bank for FrameBank<S> as FrameBankBank {
         if !self.spares.is_out(frames, frame) {
             return Err(Refusal::NotOut);
         }
-        self.store.clear(place(frame, 0), FRAME_BYTES as usize);
+        clear_frames(&mut self.store, frame, 1);
         self.spares.put_first(frames, frame);
         Ok(())
     }
@@ -102,7 +131,7 @@ pub impl<S: Store> Bank for FrameBank<S> as FrameBankBank {
         if !self.spares.is_out(frames, frame) {
             return Err(Refusal::NotOut);
         }
-        self.store.read(place(frame, offset), buffer);
+        read_frame(&self.store, frame, offset, buffer);
         Ok(())
     }
 
@@ -117,7 +146,7 @@ pub impl<S: Store> Bank for FrameBank<S> as FrameBankBank {
         if !self.spares.is_out(frames, frame) {
             return Err(Refusal::NotOut);
         }
-        self.store.write(place(frame, offset), buffer);
+        write_frame(&mut self.store, frame, offset, buffer);
         Ok(())
     }
 

@@ -6,7 +6,7 @@ ghost use lib.ListN.{length};
 ghost use Rattle.bank.specs.Sound.{Sound};
 ghost use Rattle.bank.specs.Tables.{put};
 ghost use Rattle.banks.specs.Memory.{lane-frames, woven, checked, cleared};
-ghost use Rattle.banks.specs.Frames.{lane-bank, fresh, Lanes-lie};
+ghost use Rattle.banks.specs.Frames.{lane-bank, fresh, Lanes-end-to-end};
 use super::flat::clear_if;
 use super::flat::whole_frames;
 use super::frames::FrameBank;
@@ -121,8 +121,8 @@ impl<'a> LaneBank<'a> {
 }
 
 // The memories of a lane bank are its frames' lanes, after any call.
-pub fn lanes_lie() -> u8
-    ensures { λ _. ⌜ Lanes-lie ⌝ }
+pub fn lanes_are_end_to_end() -> u8
+    ensures { λ _. ⌜ Lanes-end-to-end ⌝ }
 {
     0
 }

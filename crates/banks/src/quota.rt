@@ -1,6 +1,6 @@
 // A quota: any other bank, of which at most so many frames are out at a time.
 ghost use mathlib.Core.Path.{_≡_};
-ghost use Prim.Native.Nat.{ℕ, _<_, _≤_};
+ghost use Prim.Native.Nat.{ℕ, _+_, _-_, _<_, _≤_};
 ghost use lib.ListN.{length};
 ghost use Rattle.std.specs.declared.result.Result.the-variants.{Ok};
 ghost use Rattle.bank.specs.Model.{most-frames, reset as resetting, grant as granting, give-back as giving, read as reading, write as writing};
@@ -32,17 +32,25 @@ impl<B: Bank> Quota<B> {
         Quota {
             below,
             limit,
-            left: limit,
+            left: left_of(limit, 0),
         }
     }
 }
 
-// All of the limit is left, which is a byte.
-fn all_of(limit: u8) -> u8
-    ensures value { λ r. ⌜ r ≡ limit ⌝ }
+// What is left of a limit, which is a byte, with so many frames out.
+fn left_of(limit: u8, out: u8) -> u8
+    ensures value { λ r. ⌜ r ≡ limit - out ⌝ }
     ensures byte { λ _. ⌜ limit < 256 ⌝ }
 {
-    limit
+    limit.saturating_sub(out)
+}
+
+// One less is left of the limit.
+fn one_less(left: u8) -> u8
+    requires { ⌜ 0 < left ⌝ }
+    ensures { λ r. ⌜ r + 1 ≡ left ⌝ }
+{
+    left - 1
 }
 
 // One more is left of the limit.
@@ -63,7 +71,7 @@ pub impl<B: Bank> Bank for Quota<B> as QuotaBank {
         ensures balanced { λ _. ⌜ Balanced (now (self .entry) .limit) (now (self .exit) .left) (B·Bank .model (now (self .exit) .below)) ⌝ }
     {
         self.below.reset();
-        let left = all_of(self.limit);
+        let left = left_of(self.limit, 0);
         self.left = left;
     }
 
@@ -77,7 +85,8 @@ pub impl<B: Bank> Bank for Quota<B> as QuotaBank {
         }
         match self.below.grant() {
             Ok(frame) => {
-                self.left -= 1;
+                let left = one_less(self.left);
+                self.left = left;
                 Ok(frame)
             }
             Err(refusal) => Err(refusal),

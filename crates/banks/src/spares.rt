@@ -3,11 +3,11 @@ ghost use mathlib.Core.Path.{_≡_};
 ghost use mathlib.Core.Bool.{true, false};
 ghost use mathlib.Core.List.{_∷_};
 ghost use Prim.Native.Nat.{ℕ, _+_, _<_, _≤_};
-ghost use lib.ListN.{getD};
+ghost use lib.ListN.{getD, set};
 ghost use Rattle.std.specs.Iters.{counting};
 ghost use Rattle.std.specs.declared.result.Result.the-variants.{Ok};
 ghost use Rattle.bank.specs.Tables.{put};
-ghost use Rattle.banks.specs.Spares.{marked, listed, taken};
+ghost use Rattle.banks.specs.Spares.{marked, link, listed, taken};
 use refusal::Refusal;
 
 // The spare frames as a list of links: `head` is the first spare frame, and `next` of a spare frame the one after it.
@@ -41,6 +41,22 @@ impl Spares {
         frame < frames && self.out[frame as usize]
     }
 
+    // The link of a frame.
+    fn after(&self, spare: u8) -> u8
+        requires { ⌜ spare < 64 ⌝ }
+        ensures { λ r. ⌜ r ≡ link (now (self .entry)) spare ⌝ }
+    {
+        self.next[spare as usize]
+    }
+
+    // Marks a frame out.
+    fn mark_out(&mut self, frame: u8)
+        requires { ⌜ frame < 64 ⌝ }
+        ensures { λ _. ⌜ now (self .exit) ≡ record { head = now (self .entry) .head; next = now (self .entry) .next; out = set (now (self .entry) .out) frame true } ⌝ }
+    {
+        self.out[frame as usize] = true;
+    }
+
     // Takes the first spare frame and marks it out.
     pub fn take(&mut self, frames: u32) -> Result<u32, Refusal>
         requires { ⌜ frames ≤ 64 ⌝ }
@@ -55,8 +71,8 @@ impl Spares {
         if self.out[head as usize] {
             return Err(Refusal::Frames);
         }
-        let next = self.next[head as usize];
-        self.out[head as usize] = true;
+        let next = self.after(head);
+        self.mark_out(head);
         self.head = next;
         Ok(frame)
     }

@@ -1,4 +1,25 @@
 // Banks at work: the same lists of calls on every kind of bank, and where the bytes lie.
+ghost use mathlib.Core.Path.{_≡_};
+ghost use mathlib.Core.Bool.{cond};
+ghost use lib.Dec.{eqb};
+ghost use lib.ListN.{length};
+ghost use Rattle.std.specs.declared.result.Result.the-variants.{Ok, Err};
+ghost use Rattle.refusal.specs.declared.Refusal.the-variants.{Frames};
+ghost use Rattle.banks.specs.Memory.{whole-frames};
+use bank::Bank;
+use banks::FlatBank;
+use banks::FlatMemoryStore;
+use banks::FrameBankBank;
+use refusal::Refusal;
+
+// What the first grant answers of a flat bank over a memory: the frame 0, if the memory has frames.
+pub fn first_grant(memory: &mut [u8]) -> Result<u32, Refusal>
+    ensures { λ r. ⌜ r ≡ cond (eqb (whole-frames (length (now (memory .entry)))) 0) (Err Frames) (Ok 0) ⌝ }
+{
+    let mut bank = FlatBank::new(memory);
+    bank.grant()
+}
+
 #[cfg(test)]
 mod tests {
     use bank::Bank;

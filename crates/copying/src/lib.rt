@@ -132,6 +132,7 @@ pub fn copy_slots<B: Bank>(
     requires { ⌜ size ≤ 1024 ⌝ }
     ensures step { λ r. ⌜ (done-of r, B·Bank .model (now (bank .exit))) ≡ copies size from to (set-places (places desktop) mask) (B·Bank .model (now (bank .entry))) ⌝ }
     ensures bytes { λ r. ⌜ ((n : ℕ) → r ≡ Ok n → n ≡ size * set-bits (places desktop) mask) ⌝ }
+    ensures few { λ r. ⌜ ((n : ℕ) → r ≡ Ok n → n ≤ 65536) ⌝ }
 {
     let mut copied = 0;
     for slot in 0..64u8 {

@@ -59,6 +59,7 @@ returns g c =
       bytes = λ n is. let same : c .loop-slot .copied ≡ n = cc in
           sym same
           ∙ omega (arith, inv .1, ap (λ (ps : List ℕ). a .size * length ps) end, ap (λ k. a .size * k) (length-set-places (places desktop) (a .mask)));
+      few = λ n is. let same : c .loop-slot .copied ≡ n = cc in omega (arith, inv .2, c .loop-slot .kept .slot-end);
     }
 
 pub returns-in-Err : need.returns-in-Err
@@ -68,4 +69,5 @@ returns-in-Err g c =
     record {
       step = copies-stopped (a .size) (a .from) (a .to) (a .mask) (c .loop-slot .slot) (model (c .loop-slot .bank)) (model (c .copy-slot .last .bank)) (c .in-Err .refusal) (c .loop-slot-test .taken) (sym (c .if-is-occupied .ensures tt)) (c .in-Err .ensures tt) ∙ c .loop-slot .inv .0;
       bytes = λ n is. let z : _≡_ {A = ℕ} 0 1 = cc in omega arith;
+      few = λ n is. let z : _≡_ {A = ℕ} 0 1 = cc in omega arith;
     }

@@ -1,7 +1,5 @@
 use native.Mathlib.Omega.{arith}
-use mathlib.Core.Path.{refl, _∙_, ap}
-use lib.ListN.{replicate}
-use Rattle.bank.specs.Tables.{poke}
+use mathlib.Core.Path.{refl}
 use Rattle.banks.specs.Spares.{marked, link}
 use Rattle.banks.proofs.Chains.{length-chain}
 use Rattle.banks.proofs.Steps.{bank-give-back, bank-keep, none-out}
@@ -28,10 +26,10 @@ returns g c =
     let byte = g .S·Store .byte store in
     record {
       step =
-          bank-give-back n (g .S·Store .frames (c .clear .last .self)) (c .frames-frames .result) byte
-          (g .S·Store .byte (c .clear .last .self)) spares (c .put-first .last .self) (c .args .frame)
-          (c .frames-frames .ensures .value) (c .clear .ensures .frames) (c .if-not-is-out .ensures tt)
-          (c .clear .ensures .bytes ∙ ap (λ at. poke byte at (replicate 1024 0)) (c .place .ensures))
+          bank-give-back n (g .S·Store .frames (c .clear-frames .last .store)) (c .frames-frames .result) byte
+          (g .S·Store .byte (c .clear-frames .last .store)) spares (c .put-first .last .self) (c .args .frame)
+          (c .frames-frames .ensures .value) (c .clear-frames .ensures .frames) (c .if-not-is-out .ensures tt)
+          (c .clear-frames .ensures .bytes)
           (c .put-first .ensures .list) (c .put-first .ensures .marks);
       few = omega (arith, length-chain n (marked n spares) (link spares) (spares .head));
       idle = λ none. absurd (none-out n (c .frames-frames .result) spares (c .args .frame) (c .frames-frames .ensures .value) (c .if-not-is-out .ensures tt) none);

@@ -1,7 +1,4 @@
 use native.Mathlib.Omega.{arith}
-use mathlib.Core.Path.{_∙_, ap}
-use lib.ListN.{replicate}
-use Rattle.bank.specs.Tables.{poke}
 use Rattle.banks.proofs.Steps.{bank-reset, counting-proper}
 use Rattle.banks.proofs.frames.FrameBankBank.reset.Needs as need
 
@@ -11,10 +8,10 @@ returns-then-frames-gt0 g c =
     let byte = g .S·Store .byte store in
     record {
       after =
-          bank-reset (g .S·Store .frames store) (g .S·Store .frames (c .clear .last .self)) (c .frames-frames .result) byte
-          (g .S·Store .byte (c .clear .last .self)) (c .args .self .now .spares) (c .opening-self .result)
-          (c .frames-frames .ensures .value) (c .clear .ensures .frames) (omega arith)
-          (c .clear .ensures .bytes ∙ ap (λ n. poke byte 0 (replicate n 0)) (c .place .ensures))
+          bank-reset (g .S·Store .frames store) (g .S·Store .frames (c .clear-frames .last .store)) (c .frames-frames .result) byte
+          (g .S·Store .byte (c .clear-frames .last .store)) (c .args .self .now .spares) (c .opening-self .result)
+          (c .frames-frames .ensures .value) (c .clear-frames .ensures .frames) (omega arith)
+          (c .clear-frames .ensures .bytes)
           (c .opening-self .ensures .list) (c .opening-self .ensures .none);
       few = omega arith;
       proper = counting-proper (g .S·Store .frames store) (g .S·Store .frames store) 0 (omega arith);

@@ -1,5 +1,3 @@
-use mathlib.Core.Path.{_∙_, ap}
-use Rattle.bank.specs.Tables.{poke}
 use Rattle.banks.proofs.Steps.{bank-write, none-out}
 use Rattle.banks.proofs.frames.FrameBankBank.write.Needs as need
 
@@ -11,11 +9,11 @@ returns g c =
     let byte = g .S·Store .byte store in
     record {
       step =
-          bank-write n (g .S·Store .frames (c .write .last .self)) (c .frames-frames .result) byte
-          (g .S·Store .byte (c .write .last .self)) spares (c .args .frame) (c .args .offset) (c .args .buffer .now)
-          (c .frames-frames .ensures .value) (c .write .ensures .frames) (c .if-not-fits .ensures tt)
+          bank-write n (g .S·Store .frames (c .write-frame .last .store)) (c .frames-frames .result) byte
+          (g .S·Store .byte (c .write-frame .last .store)) spares (c .args .frame) (c .args .offset) (c .args .buffer .now)
+          (c .frames-frames .ensures .value) (c .write-frame .ensures .frames) (c .if-not-fits .ensures tt)
           (c .if-not-is-out .ensures tt)
-          (c .write .ensures .bytes ∙ ap (λ at. poke byte at (c .args .buffer .now)) (c .place .ensures));
+          (c .write-frame .ensures .bytes);
       idle = λ none.
           absurd (none-out n (c .frames-frames .result) spares (c .args .frame) (c .frames-frames .ensures .value) (c .if-not-is-out .ensures tt) none);
     }

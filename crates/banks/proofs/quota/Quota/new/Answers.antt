@@ -1,8 +1,8 @@
-use native.Mathlib.Omega.{arith}
-use mathlib.Core.Path.{refl, sym, ap, subst}
+use native.Mathlib.Nat.{sub-zero}
+use mathlib.Core.Path.{refl, sym, _∙_, ap, subst}
 use Rattle.bank.specs.Sound.{Sound}
 use Rattle.bank.proofs.Soundness.{reset-sound}
-use Rattle.banks.specs.Quota.{limited}
+use Rattle.banks.specs.Quota.{limited, Balanced}
 use Rattle.banks.proofs.Limits.{balanced-reset}
 use Rattle.banks.proofs.quota.Quota.new.Needs as need
 
@@ -10,10 +10,14 @@ pub returns : need.returns
 returns g c =
     let before = g .B·Bank .model (c .args .below) in
     let after = g .B·Bank .model (c .reset .last .self) in
+    let limit = c .args .limit in
+    let all = c .left-of .ensures .value ∙ sub-zero limit in
     record {
       below = c .reset .ensures .after;
-      model = ap (limited (c .args .limit) (c .args .limit)) (c .reset .ensures .after);
+      model = ap (λ left. limited limit left after) all ∙ ap (limited limit limit) (c .reset .ensures .after);
       limit = refl;
-      balanced = balanced-reset (c .args .limit) before after (omega arith) (c .reset .ensures .after);
+      balanced =
+          subst (λ left. Balanced limit left after) (sym all)
+          (balanced-reset limit before after (c .left-of .ensures .byte) (c .reset .ensures .after));
       sound = subst Sound (sym (c .reset .ensures .after)) (reset-sound before (c .reset .ensures .few) (c .reset .ensures .proper));
     }

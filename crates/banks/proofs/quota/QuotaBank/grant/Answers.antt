@@ -13,9 +13,9 @@ returns-in-Ok g c =
     let some : 0 < left = omega arith in
     let below = c .in-Ok .ensures tt in
     record {
-      step = limited-grant limit left before after (c .in-Ok .frame) some (below .step);
+      step = limited-grant limit left (c .one-less-left .result) before after (c .in-Ok .frame) some (omega arith) (below .step);
       bound = below .bound;
-      quota = record { same-limit = refl; balance = balance-grant limit left before after (c .in-Ok .frame) some (below .step) };
+      quota = record { same-limit = refl; balance = balance-grant limit left (c .one-less-left .result) before after (c .in-Ok .frame) some (omega arith) (below .step) };
     }
 
 pub returns-in-Err : need.returns-in-Err

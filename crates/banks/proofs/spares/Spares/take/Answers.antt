@@ -1,6 +1,6 @@
 use borrow.Author.Needs.{needs}
 use native.Mathlib.Omega.{arith}
-use Rattle.banks.proofs.Steps.{taken-past, taken-out, taken-first}
+use Rattle.banks.proofs.Steps.{taken-past, taken-out, taken-next}
 use Rattle.banks.proofs.spares.Spares.take.Needs as need
 
 pub returns-then-frame-frames : need.returns-then-frame-frames
@@ -18,7 +18,7 @@ pub returns : need.returns
 returns c =
     record {
       step =
-          taken-first (c .args .frames) (c .args .self .now .head) (c .args .self .now .next) (c .args .self .now .out)
-          (omega arith) (omega arith) (c .if-self-head .left);
+          taken-next (c .args .frames) (c .args .self .now) (c .mark-out .last .self) (c .after-next .result) (omega arith)
+          (omega arith) (c .if-self-head .left) (c .after-next .ensures) (c .mark-out .ensures);
       below = search needs;
     }
