@@ -8,16 +8,19 @@ use Rattle.std.specs.declared.result.Result.{Result}
 use Rattle.std.specs.declared.result.Result.the-variants.{Ok, Err}
 use Rattle.refusal.specs.declared.Refusal.{Refusal}
 use Rattle.calls.specs.declared.Call.{Call}
-use Rattle.calls.specs.declared.Call.the-variants.{New, Write, Read, Place, Count}
+use Rattle.calls.specs.declared.Call.the-variants.{New, Write, Read, Fetch, Place, Delete, Mesh, Count}
 use Rattle.calls.specs.declared.Answer.{Answer}
-use Rattle.calls.specs.declared.Answer.the-variants.{ToNew, ToWrite, ToRead, ToPlace, ToCount}
+use Rattle.calls.specs.declared.Answer.the-variants.{ToNew, ToWrite, ToRead, ToFetch, ToPlace, ToDelete, ToMesh, ToCount}
 use Rattle.model.specs.Runs as runs
 
 abbrev pub call-of : Call → runs.Call
 call-of (New label length) = runs.New label length
 call-of (Write label offset bytes) = runs.Write label offset (vec-items bytes)
 call-of (Read label offset count) = runs.Read label offset count
+call-of (Fetch address count) = runs.Fetch address count
 call-of (Place label) = runs.Place label
+call-of (Delete label) = runs.Delete label
+call-of (Mesh class) = runs.Mesh class
 call-of Count = runs.Count
 
 abbrev pub bytes-of : Result (Vec ℕ Global) Refusal → Result (List ℕ) Refusal
@@ -28,5 +31,8 @@ abbrev pub answer-of : Answer → runs.Answer
 answer-of (ToNew r) = runs.To-new r
 answer-of (ToWrite r) = runs.To-write r
 answer-of (ToRead r) = runs.To-read (bytes-of r)
+answer-of (ToFetch r) = runs.To-fetch (bytes-of r)
 answer-of (ToPlace r) = runs.To-place r
+answer-of (ToDelete r) = runs.To-delete r
+answer-of (ToMesh r) = runs.To-mesh r
 answer-of (ToCount counts) = runs.To-count counts

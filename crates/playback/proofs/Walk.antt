@@ -20,9 +20,9 @@ use Rattle.model.specs.State.{State}
 use Rattle.model.specs.Mesh.{Meaning}
 use Rattle.model.specs.Runs as runs
 use Rattle.playback.specs.declared.command.Command.{Command}
-use Rattle.playback.specs.declared.command.Command.the-variants.{New, Write, Read, Place, Count}
+use Rattle.playback.specs.declared.command.Command.the-variants.{Count}
 use Rattle.playback.specs.declared.line.Line.{Line}
-use Rattle.playback.specs.Format.{operands, whole, lettered, new-command, write-command, read-command, place-command, decoded, called}
+use Rattle.playback.specs.Format.{operands, whole, lettered, new-command, write-command, read-command, fetch-command, place-command, delete-command, mesh-command, decoded, called}
 use Rattle.playback.specs.Playing.{told, told-with, broken, before, commanded, plays}
 
 same-command : (a b : Command) → _≡_ {A = Result Command Refusal} (Ok a) (Ok b) → a ≡ b
@@ -52,8 +52,11 @@ lettered-long letter bytes =
     either bytes (eqb letter 78) (whole bytes (new-command bytes)) _ (whole-long bytes (new-command bytes))
     (either bytes (eqb letter 87) (whole bytes (write-command bytes)) _ (whole-long bytes (write-command bytes))
     (either bytes (eqb letter 82) (whole bytes (read-command bytes)) _ (whole-long bytes (read-command bytes))
+    (either bytes (eqb letter 70) (whole bytes (fetch-command bytes)) _ (whole-long bytes (fetch-command bytes))
     (either bytes (eqb letter 80) (whole bytes (place-command bytes)) _ (whole-long bytes (place-command bytes))
-    (either bytes (eqb letter 67) (Ok Count) (Err UnknownLetter) (λ command is. subst (λ c. operands c ≤ length bytes) (same-command Count command is) (omega arith)) (no-long bytes UnknownLetter)))))
+    (either bytes (eqb letter 68) (whole bytes (delete-command bytes)) _ (whole-long bytes (delete-command bytes))
+    (either bytes (eqb letter 77) (whole bytes (mesh-command bytes)) _ (whole-long bytes (mesh-command bytes))
+    (either bytes (eqb letter 67) (Ok Count) (Err UnknownLetter) (λ command is. subst (λ c. operands c ≤ length bytes) (same-command Count command is) (omega arith)) (no-long bytes UnknownLetter))))))))
 
 pub decoded-long : (bytes : List ℕ) (command : Command) → decoded bytes ≡ Ok command → 1 + operands command ≤ length bytes
 decoded-long [] command is = absurd (no-command UnknownLetter command is)

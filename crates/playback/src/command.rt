@@ -4,7 +4,7 @@ ghost use lib.ListN.{replicate};
 ghost use Rattle.std.specs.Of.Vec.{vec-items};
 ghost use Rattle.std.specs.Vec.{made};
 ghost use Rattle.calls.specs.Values.{call-of};
-ghost use Rattle.playback.specs.Format.{Decodes, decoded, whole, new-command, write-command, read-command, place-command, called, letter-of};
+ghost use Rattle.playback.specs.Format.{Decodes, decoded, whole, new-command, write-command, read-command, fetch-command, place-command, delete-command, mesh-command, called, letter-of};
 use calls::Call;
 use refusal::Refusal;
 use std::alloc::AllocError;
@@ -19,8 +19,14 @@ pub enum Command {
     Write(u8, u16, u16, u8),
     // Label and offset of one byte.
     Read(u8, u16),
+    // Address of one byte.
+    Fetch(u32),
     // Label.
     Place(u8),
+    // Label.
+    Delete(u8),
+    // Class.
+    Mesh(u8),
     Count,
 }
 
@@ -40,7 +46,10 @@ pub fn decode(bytes: &[u8]) -> Result<Decoded<'_>, Refusal>
         [b'N', operands @ ..] => decode_new(operands),
         [b'W', operands @ ..] => decode_write(operands),
         [b'R', operands @ ..] => decode_read(operands),
+        [b'F', operands @ ..] => decode_fetch(operands),
         [b'P', operands @ ..] => decode_place(operands),
+        [b'D', operands @ ..] => decode_delete(operands),
+        [b'M', operands @ ..] => decode_mesh(operands),
         [b'C', rest @ ..] => Ok(Decoded {
             command: Command::Count,
             rest,
@@ -97,12 +106,48 @@ fn decode_read(bytes: &[u8]) -> Result<Decoded<'_>, Refusal>
     }
 }
 
+fn decode_fetch(bytes: &[u8]) -> Result<Decoded<'_>, Refusal>
+    ensures { λ r. ⌜ Decodes 0 (now (bytes .entry)) (whole (now (bytes .entry)) (fetch-command (now (bytes .entry)))) r ⌝ }
+{
+    match bytes {
+        [high, middle, low, rest @ ..] => Ok(Decoded {
+            command: Command::Fetch(*high as u32 * 65536 + *middle as u32 * 256 + *low as u32),
+            rest,
+        }),
+        _ => Err(Refusal::Cut),
+    }
+}
+
 fn decode_place(bytes: &[u8]) -> Result<Decoded<'_>, Refusal>
     ensures { λ r. ⌜ Decodes 0 (now (bytes .entry)) (whole (now (bytes .entry)) (place-command (now (bytes .entry)))) r ⌝ }
 {
     match bytes {
         [label, rest @ ..] => Ok(Decoded {
             command: Command::Place(*label),
+            rest,
+        }),
+        _ => Err(Refusal::Cut),
+    }
+}
+
+fn decode_delete(bytes: &[u8]) -> Result<Decoded<'_>, Refusal>
+    ensures { λ r. ⌜ Decodes 0 (now (bytes .entry)) (whole (now (bytes .entry)) (delete-command (now (bytes .entry)))) r ⌝ }
+{
+    match bytes {
+        [label, rest @ ..] => Ok(Decoded {
+            command: Command::Delete(*label),
+            rest,
+        }),
+        _ => Err(Refusal::Cut),
+    }
+}
+
+fn decode_mesh(bytes: &[u8]) -> Result<Decoded<'_>, Refusal>
+    ensures { λ r. ⌜ Decodes 0 (now (bytes .entry)) (whole (now (bytes .entry)) (mesh-command (now (bytes .entry)))) r ⌝ }
+{
+    match bytes {
+        [label, rest @ ..] => Ok(Decoded {
+            command: Command::Mesh(*label),
             rest,
         }),
         _ => Err(Refusal::Cut),
@@ -117,7 +162,10 @@ pub fn letter(command: Command) -> char
         Command::New(_, _) => 'N',
         Command::Write(_, _, _, _) => 'W',
         Command::Read(_, _) => 'R',
+        Command::Fetch(_) => 'F',
         Command::Place(_) => 'P',
+        Command::Delete(_) => 'D',
+        Command::Mesh(_) => 'M',
         Command::Count => 'C',
     }
 }
@@ -142,7 +190,10 @@ pub fn call(heap: Global, command: Command) -> Result<Call, AllocError>
             Ok(Call::Write(label, offset as u32, bytes))
         }
         Command::Read(label, offset) => Ok(Call::Read(label, offset as u32, 1)),
+        Command::Fetch(address) => Ok(Call::Fetch(address, 1)),
         Command::Place(label) => Ok(Call::Place(label)),
+        Command::Delete(label) => Ok(Call::Delete(label)),
+        Command::Mesh(class) => Ok(Call::Mesh(class)),
         Command::Count => Ok(Call::Count),
     }
 }

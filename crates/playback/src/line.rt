@@ -102,8 +102,14 @@ pub fn tell(at: usize, answer: &Answer) -> Outcome
         Answer::ToWrite(Err(refusal)) => refused(at, *refusal),
         Answer::ToRead(Ok(bytes)) => Outcome::Byte(first_byte(bytes.as_slice())),
         Answer::ToRead(Err(refusal)) => refused(at, *refusal),
+        Answer::ToFetch(Ok(bytes)) => Outcome::Byte(first_byte(bytes.as_slice())),
+        Answer::ToFetch(Err(refusal)) => refused(at, *refusal),
         Answer::ToPlace(Ok(address)) => Outcome::Address(*address),
         Answer::ToPlace(Err(refusal)) => refused(at, *refusal),
+        Answer::ToDelete(Ok(emptied)) => Outcome::Freed(*emptied),
+        Answer::ToDelete(Err(refusal)) => refused(at, *refusal),
+        Answer::ToMesh(Ok(meshed)) => Outcome::Merged(*meshed),
+        Answer::ToMesh(Err(refusal)) => refused(at, *refusal),
         Answer::ToCount(counts) => Outcome::Counted(*counts),
     }
 }

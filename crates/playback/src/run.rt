@@ -3,9 +3,9 @@ ghost use mathlib.Core.Path.{_≡_};
 ghost use Rattle.std.specs.Of.Vec.{vec-items};
 ghost use Rattle.std.specs.Vec.{made};
 ghost use Rattle.model.specs.Geometry.{desktop};
-ghost use Rattle.model.specs.Mesh.{Meaning};
 ghost use Rattle.model.specs.Runs.{step as model-step};
 ghost use Rattle.pool.specs.View.{state-of};
+ghost use Rattle.pool.specs.Pairings.{meaning-of};
 ghost use Rattle.playback.specs.Format.{called};
 ghost use Rattle.playback.specs.Playing.{told-with, broken, played};
 use crate::command::Command;
@@ -17,19 +17,20 @@ use crate::line::refused;
 use crate::line::tell;
 use bank::Bank;
 use calls::perform;
+use pairing::Pairing;
 use pool::Pool;
 use refusal::Refusal;
 use std::alloc::AllocError;
 use std::alloc::Global;
 
 // Performs a command, and tells of it.
-fn perform_command<B: Bank, P>(
+fn perform_command<B: Bank, P: Pairing>(
     heap: Global,
     pool: &mut Pool<B, P>,
     at: usize,
     command: Command,
 ) -> Result<Line, AllocError>
-    ensures { λ r. ⌜ made r (λ line. (meaning : Meaning P) → (line, state-of (B·Bank .model) (now (pool .exit))) ≡ told-with desktop at command (model-step desktop meaning (called command) (state-of (B·Bank .model) (now (pool .entry))))) ⌝ }
+    ensures { λ r. ⌜ made r (λ line. (line, state-of (B·Bank .model) (now (pool .exit))) ≡ told-with desktop at command (model-step desktop (meaning-of (P·Pairing .pairs) (P·Pairing .next)) (called command) (state-of (B·Bank .model) (now (pool .entry))))) ⌝ }
 {
     let call = call(heap, command)?;
     let answer = perform(heap, pool, &call)?;
@@ -56,12 +57,12 @@ fn tell_fault<B: Bank, P>(pool: &mut Pool<B, P>, at: usize, refusal: Refusal) ->
 
 // Plays a list of command bytes: a line for each command, in order. A fault in the list itself ends the run, and any
 // other refusal does not.
-pub fn play<B: Bank, P>(
+pub fn play<B: Bank, P: Pairing>(
     heap: Global,
     pool: &mut Pool<B, P>,
     input: &[u8],
 ) -> Result<Vec<Line>, AllocError>
-    ensures { λ r. ⌜ made r (λ lines. (meaning : Meaning P) → (vec-items lines, state-of (B·Bank .model) (now (pool .exit))) ≡ played desktop meaning (now (input .entry)) (state-of (B·Bank .model) (now (pool .entry)))) ⌝ }
+    ensures { λ r. ⌜ made r (λ lines. (vec-items lines, state-of (B·Bank .model) (now (pool .exit))) ≡ played desktop (meaning-of (P·Pairing .pairs) (P·Pairing .next)) (now (input .entry)) (state-of (B·Bank .model) (now (pool .entry)))) ⌝ }
 {
     let mut lines = Vec::new(heap);
     let mut rest = input;

@@ -3,8 +3,8 @@ use Prim.Native.Nat.{_-_, _≤_}
 use lib.ListN.{length}
 use Rattle.std.specs.Of.Vec.{vec-items}
 use Rattle.model.specs.Geometry.{desktop}
-use Rattle.model.specs.Mesh.{Meaning}
 use Rattle.pool.specs.View.{state-of}
+use Rattle.pool.specs.Pairings.{meaning-of}
 use Rattle.playback.specs.Playing.{plays}
 use Rattle.playback.proofs.Walk.{behind}
 use Rattle.playback.proofs.run.play.Given as given
@@ -13,7 +13,7 @@ use Rattle.playback.proofs.run.play.Given as given
 abbrev pub Inv-loop-rest : given.InvT-loop-rest
 Inv-loop-rest g l =
     (length (l .rest) ≤ length (l .input))
-    × ((meaning : Meaning (g .P .Denot)) → behind (vec-items (l .lines)) (plays desktop meaning 0 (length (l .input) - length (l .rest)) (l .rest) (state-of (g .B·Bank .model) (l .pool))) ≡ plays desktop meaning 0 0 (l .input) (state-of (g .B·Bank .model) (l .entry .pool)))
+    × (behind (vec-items (l .lines)) (plays desktop (meaning-of (g .P·Pairing .pairs) (g .P·Pairing .next)) 0 (length (l .input) - length (l .rest)) (l .rest) (state-of (g .B·Bank .model) (l .pool))) ≡ plays desktop (meaning-of (g .P·Pairing .pairs) (g .P·Pairing .next)) 0 0 (l .input) (state-of (g .B·Bank .model) (l .entry .pool)))
 
 abbrev pub μ-loop-rest : given.MeasureT-loop-rest
 μ-loop-rest g l = length (l .rest)
