@@ -1,6 +1,8 @@
 -- Calls and answers as values of the code, and as the definition of a pool has them.
 use Prim.Native.Nat.{ℕ}
-use mathlib.Core.List.{List}
+use mathlib.Core.Path.{_≡_}
+use mathlib.Core.List.{List, map}
+use lib.ListN.{take}
 use Rattle.std.specs.declared.alloc.Global.{Global}
 use Rattle.std.specs.Of.Vec.{vec-items}
 use Rattle.std.specs.declared.vec.Vec.{Vec}
@@ -11,6 +13,9 @@ use Rattle.calls.specs.declared.Call.{Call}
 use Rattle.calls.specs.declared.Call.the-variants.{New, Write, Read, Fetch, Place, Delete, Mesh, Count}
 use Rattle.calls.specs.declared.Answer.{Answer}
 use Rattle.calls.specs.declared.Answer.the-variants.{ToNew, ToWrite, ToRead, ToFetch, ToPlace, ToDelete, ToMesh, ToCount}
+use Rattle.model.specs.Geometry.{desktop}
+use Rattle.model.specs.State.{State}
+use Rattle.model.specs.Mesh.{Meaning}
 use Rattle.model.specs.Runs as runs
 
 abbrev pub call-of : Call → runs.Call
@@ -36,3 +41,11 @@ answer-of (ToPlace r) = runs.To-place r
 answer-of (ToDelete r) = runs.To-delete r
 answer-of (ToMesh r) = runs.To-mesh r
 answer-of (ToCount counts) = runs.To-count counts
+
+-- what a list of calls answers at the desktop unit, and leaves
+abbrev pub answered-by : {C : Type 0} → Meaning C → List runs.Call → State C → List runs.Answer × State C
+answered-by meaning calls s = (map (λ (e : runs.Call × runs.Answer). e .1) (runs.run desktop meaning calls s .0), runs.run desktop meaning calls s .1)
+
+-- t is s after some front of the calls
+abbrev pub Ran-a-front : {C : Type 0} → Meaning C → List runs.Call → State C → State C → Type 0
+Ran-a-front meaning calls s t = (n : ℕ) × (t ≡ runs.run desktop meaning (take n calls) s .1)

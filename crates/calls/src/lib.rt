@@ -1,5 +1,6 @@
 // The calls of a pool as values, so that lists of them can be kept, passed and performed.
 ghost use mathlib.Core.Path.{_≡_};
+ghost use mathlib.Core.List.{map};
 ghost use lib.ListN.{replicate};
 ghost use Rattle.std.specs.Of.Vec.{vec-items};
 ghost use Rattle.std.specs.Vec.{made, refused};
@@ -8,7 +9,7 @@ ghost use Rattle.model.specs.Calls.{read as read-step, fetch as fetch-step};
 ghost use Rattle.model.specs.Runs.{step as model-step, filled};
 ghost use Rattle.pool.specs.View.{state-of};
 ghost use Rattle.pool.specs.Pairings.{meaning-of};
-ghost use Rattle.calls.specs.Values.{call-of, answer-of, bytes-of};
+ghost use Rattle.calls.specs.Values.{call-of, answer-of, bytes-of, answered-by, Ran-a-front};
 use bank::Bank;
 use model::Counts;
 use model::Made;
@@ -118,4 +119,28 @@ pub fn perform<B: Bank, P: Pairing>(
         Call::Mesh(class) => Ok(Answer::ToMesh(pool.mesh(*class))),
         Call::Count => Ok(Answer::ToCount(pool.count())),
     }
+}
+
+// Performs a list of calls in order, and answers what each answered. Where memory fails on the way, the pool has
+// performed a front of the list.
+pub fn perform_all<B: Bank, P: Pairing>(
+    heap: Global,
+    pool: &mut Pool<B, P>,
+    calls: &[Call],
+) -> Result<Vec<Answer>, AllocError>
+    ensures done { λ r. ⌜ made r (λ answers. (map answer-of (vec-items answers), state-of (B·Bank .model) (now (pool .exit))) ≡ answered-by (meaning-of (P·Pairing .pairs) (P·Pairing .next)) (map call-of (now (calls .entry))) (state-of (B·Bank .model) (now (pool .entry)))) ⌝ }
+    ensures undone { λ r. ⌜ refused r (λ _. Ran-a-front (meaning-of (P·Pairing .pairs) (P·Pairing .next)) (map call-of (now (calls .entry))) (state-of (B·Bank .model) (now (pool .entry))) (state-of (B·Bank .model) (now (pool .exit)))) ⌝ }
+{
+    let mut answers = Vec::new(heap);
+    for call in calls {
+        match perform(heap, pool, call) {
+            Ok(answer) => {
+                if answers.push(answer).is_err() {
+                    return Err(AllocError);
+                }
+            }
+            Err(error) => return Err(error),
+        }
+    }
+    Ok(answers)
 }
