@@ -1,5 +1,5 @@
 -- Lists of calls, performed one after the other.
-use mathlib.Core.Path.{_≡_, refl, sym, ap, _∙_}
+use mathlib.Core.Path.{_≡_, refl, sym, ap, subst, _∙_}
 use mathlib.Core.List.{List, [], _∷_, _++_, map, append-assoc}
 use Prim.Native.Nat.{ℕ, _+_, _<_, _≤_}
 use native.Mathlib.Omega.{arith}
@@ -41,3 +41,13 @@ module _ {C : Type 0} (meaning : Meaning C) where
   finished {K} call-of calls i s answers all past so-far =
       let pair : List runs.Answer → List runs.Answer × State C = λ given. (given, s) in
       ap pair (sym (append-nil answers)) ∙ sym (at-drop-all (λ (ks : List K). behind answers (answered-by meaning (map call-of ks) s)) calls i past) ∙ so-far
+
+-- the labels of calls that were performed are ones that the pool has
+known-push : (calls : List runs.Call) (c : runs.Call) → runs.Known-labels desktop calls → runs.Known-label desktop c → runs.Known-labels desktop (calls ++ c ∷ [])
+known-push [] c known here = (here, tt)
+known-push (b ∷ calls) c known here = (known .0, known-push calls c (known .1) here)
+
+pub known-more : {K : Type 0} (call-of : K → runs.Call) (calls : List K) (i : ℕ) (d : K) → i < length calls → runs.Known-labels desktop (map call-of (take i calls)) → runs.Known-label desktop (call-of (getD calls i d)) → runs.Known-labels desktop (map call-of (take (i + 1) calls))
+known-more call-of calls i d below known here =
+    subst (runs.Known-labels desktop) (sym (ap (map call-of) (take-more calls i d below) ∙ map-push call-of (take i calls) (getD calls i d)))
+    (known-push (map call-of (take i calls)) (call-of (getD calls i d)) known here)

@@ -6,7 +6,7 @@ ghost use Rattle.std.specs.Of.Vec.{vec-items};
 ghost use Rattle.std.specs.Vec.{made, refused};
 ghost use Rattle.model.specs.Geometry.{desktop};
 ghost use Rattle.model.specs.Calls.{read as read-step, fetch as fetch-step};
-ghost use Rattle.model.specs.Runs.{step as model-step, filled};
+ghost use Rattle.model.specs.Runs.{step as model-step, filled, Known-label, Known-labels};
 ghost use Rattle.pool.specs.View.{state-of};
 ghost use Rattle.pool.specs.Pairings.{meaning-of};
 ghost use Rattle.calls.specs.Values.{call-of, answer-of, bytes-of, answered-by, Ran-a-front};
@@ -98,6 +98,7 @@ pub fn perform<B: Bank, P: Pairing>(
 ) -> Result<Answer, AllocError>
     ensures done { λ r. ⌜ made r (λ a. (answer-of a, state-of (B·Bank .model) (now (pool .exit))) ≡ model-step desktop (meaning-of (P·Pairing .pairs) (P·Pairing .next)) (call-of (now (call .entry))) (state-of (B·Bank .model) (now (pool .entry)))) ⌝ }
     ensures undone { λ r. ⌜ refused r (λ _. state-of (B·Bank .model) (now (pool .exit)) ≡ state-of (B·Bank .model) (now (pool .entry))) ⌝ }
+    ensures known { λ _. ⌜ Known-label desktop (call-of (now (call .entry))) ⌝ }
 {
     match call {
         Call::New(label, length) => Ok(Answer::ToNew(pool.new(*label, *length))),
@@ -130,6 +131,7 @@ pub fn perform_all<B: Bank, P: Pairing>(
 ) -> Result<Vec<Answer>, AllocError>
     ensures done { λ r. ⌜ made r (λ answers. (map answer-of (vec-items answers), state-of (B·Bank .model) (now (pool .exit))) ≡ answered-by (meaning-of (P·Pairing .pairs) (P·Pairing .next)) (map call-of (now (calls .entry))) (state-of (B·Bank .model) (now (pool .entry)))) ⌝ }
     ensures undone { λ r. ⌜ refused r (λ _. Ran-a-front (meaning-of (P·Pairing .pairs) (P·Pairing .next)) (map call-of (now (calls .entry))) (state-of (B·Bank .model) (now (pool .entry))) (state-of (B·Bank .model) (now (pool .exit)))) ⌝ }
+    ensures known { λ r. ⌜ made r (λ _. Known-labels desktop (map call-of (now (calls .entry)))) ⌝ }
 {
     let mut answers = Vec::new(heap);
     for call in calls {

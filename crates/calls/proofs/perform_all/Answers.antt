@@ -1,10 +1,10 @@
-use mathlib.Core.Path.{_≡_, sym, ap, _∙_}
-use mathlib.Core.List.{map, [], _∷_, _++_}
+use mathlib.Core.Path.{_≡_, sym, ap, subst, _∙_}
+use mathlib.Core.List.{List, map, [], _∷_, _++_}
 use mathlib.Core.Bool.{not}
 use Prim.Native.Nat.{_+_}
 use lib.ListN.{drop}
 use Rattle.std.specs.Of.Vec.{vec-items}
-use Rattle.std.proofs.shelf.Lists.{map-push}
+use Rattle.std.proofs.shelf.Lists.{map-push, take-all}
 use Rattle.std.proofs.shelf.Tests.{cond-true}
 use Rattle.model.specs.Geometry.{desktop}
 use Rattle.model.specs.Runs as runs
@@ -12,7 +12,7 @@ use Rattle.pool.specs.View.{state-of}
 use Rattle.pool.specs.Pairings.{meaning-of}
 use Rattle.calls.specs.declared.Call.{Call}
 use Rattle.calls.specs.Values.{call-of, answer-of, answered-by}
-use Rattle.calls.proofs.Lists.{behind, performed, ran-front, finished}
+use Rattle.calls.proofs.Lists.{behind, performed, ran-front, finished, known-more}
 use Rattle.calls.proofs.perform_all.Needs as need
 
 pub loop-call-again : need.loop-call-again
@@ -32,6 +32,8 @@ loop-call-again g c =
       ap (λ given. behind meaning given (answered-by meaning (map call-of (drop (i + 1) calls)) t)) (ap (map answer-of) pushed ∙ map-push answer-of (vec-items (c .loop-call .answers)) (c .in-Ok .answer))
           ∙ performed meaning call-of calls i item below s t a is (map answer-of (vec-items (c .loop-call .answers))) _ (c .loop-call .inv .0),
       ran-front meaning call-of calls i item below s t a is (view (c .args .pool .now)) (c .loop-call .inv .1),
+      known-more call-of calls i item below (c .loop-call .inv .2)
+          (subst (λ (k : Call). runs.Known-label desktop (call-of k)) (c .call-item .is) (c .perform .ensures .known)),
     )
 
 pub returns : need.returns
@@ -40,6 +42,7 @@ returns g c =
     record {
       done = finished meaning call-of (c .args .calls .now) (c .loop-call .call-index) (state-of (g .B·Bank .model) (c .loop-call .pool)) (map answer-of (vec-items (c .loop-call .answers))) _ (c .loop-call-test .left) (c .loop-call .inv .0);
       undone = tt;
+      known = subst (λ (ks : List Call). runs.Known-labels desktop (map call-of ks)) (take-all (c .loop-call .call-index) (c .args .calls .now) (c .loop-call-test .left)) (c .loop-call .inv .2);
     }
 
 pub returns-then-is-err : need.returns-then-is-err
@@ -50,5 +53,6 @@ returns-then-is-err g c =
     let is = c .in-Ok .ensures tt .done ∙ ap (λ (k : Call). runs.step desktop meaning (call-of k) s) (c .call-item .is) in
     record {
       done = tt;
+      known = tt;
       undone = (c .loop-call .call-index + 1, ran-front meaning call-of (c .args .calls .now) (c .loop-call .call-index) (c .call-item .result) (c .loop-call-test .taken) s (view (c .perform .last .pool)) (answer-of (c .in-Ok .answer)) is (view (c .args .pool .now)) (c .loop-call .inv .1));
     }

@@ -17,3 +17,4 @@ Inv-loop-call g l =
     (behind meaning (map answer-of (vec-items (l .answers))) (answered-by meaning (map call-of (drop (l .call-index) (l .calls))) (view (l .pool)))
     ≡ answered-by meaning (map call-of (l .calls)) (view (l .entry .pool)))
     × (view (l .pool) ≡ runs.run desktop meaning (take (l .call-index) (map call-of (l .calls))) (view (l .entry .pool)) .1)
+    × runs.Known-labels desktop (map call-of (take (l .call-index) (l .calls)))
