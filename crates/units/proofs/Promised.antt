@@ -9,12 +9,12 @@ use Rattle.model.specs.State.{State, opened}
 use Rattle.model.specs.Mesh.{Meaning}
 use Rattle.model.specs.Runs.{Call, Answer, History, step, run, Lawful}
 use Rattle.calls.specs.Values.{answered-by}
-use Rattle.laws.specs.Laws.{Play, history, end}
+use Rattle.laws.specs.Laws.{Play, Alike, history, end}
 use Rattle.laws.proofs.Readings.{reading-law, same-readings-law}
 use Rattle.laws.proofs.Frames.{frame-law}
 use Rattle.laws.proofs.Counting.{count-law}
 use Rattle.units.specs.Performed.{told, Performed}
-use Rattle.units.specs.Promises.{Kept, Start, Started-alike, Agree}
+use Rattle.units.specs.Promises.{Kept, Start, start-with, Started-alike, Agree}
 
 -- the history of a run is its calls with its answers
 told-run : {C : Type 0} (meaning : Meaning C) (calls : List Call) (s : State C) → told calls (answered-by meaning calls s .0) ≡ run desktop meaning calls s .0
@@ -53,5 +53,23 @@ module _ {C : Type 0} {meaning : Meaning C} {bank : BankState} {condition : C} {
         bounded = count-law C desktop play .1;
       })
 
-  abbrev pub start-of : Start C
-  start-of = record { meaning = meaning; bank = bank; condition = condition; seed = seed; calls = calls }
+module _ {C : Type 0} {one : Meaning C} {bank : BankState} {condition : C} {seed : ℕ} {calls : List Call} {answers : List Answer} {s : State C} {D : Type 0} {two : Meaning D} {bank′ : BankState} {condition′ : D} {seed′ : ℕ} {calls′ : List Call} {answers′ : List Answer} {t : State D} (lawful : Lawful one) (p : Performed one bank condition seed calls answers s) (lawful′ : Lawful two) (q : Performed two bank′ condition′ seed′ calls′ answers′ t) where
+  abbrev first-start : Start C
+  first-start = start-with one bank condition seed calls
+
+  abbrev second-start : Start D
+  second-start = start-with two bank′ condition′ seed′ calls′
+
+  alike : Started-alike first-start second-start → Alike (play lawful p) (play lawful′ q)
+  alike a = record { seeds = a .seeds; sizes = a .sizes; openings = a .openings; pairings = a .pairings; calls = a .calls }
+
+  pub agree : Agree first-start (told calls answers) s second-start (told calls′ answers′) t
+  agree =
+      at-unit lawful p (λ h x. Agree first-start h x second-start (told calls′ answers′) t)
+      (at-unit lawful′ q (λ k y. Agree first-start (history (play lawful p)) (end (play lawful p)) second-start k y)
+      (record {
+        books-from-readings = same-readings-law C D desktop (play lawful p) (play lawful′ q) .0;
+        readings-from-books = same-readings-law C D desktop (play lawful p) (play lawful′ q) .1;
+        readings-from-frames = λ a. frame-law C D desktop (play lawful p) (play lawful′ q) (alike a) .0;
+        frames-from-readings = λ a. frame-law C D desktop (play lawful p) (play lawful′ q) (alike a) .1;
+      }))

@@ -27,9 +27,9 @@ pub record Kept {C : Type 0} (meaning : Meaning C) (history : History) (s : Stat
   -- frames out are no more than the spans in which a label of the book has its first address
   pub bounded : frames-in (next-of desktop meaning s Count) ≤ spans-of-book desktop (book-of history) (first-address history)
 
--- two units hold equal bytes in every frame
-abbrev pub Same-frames : BankState → BankState → Type 0
-Same-frames one two = (f i : ℕ) → f < one .size → i < desktop .frame → one .bytes f i ≡ two .bytes f i
+-- two banks hold equal bytes in each of the first n frames
+abbrev pub Same-frames : ℕ → BankState → BankState → Type 0
+Same-frames n one two = (f i : ℕ) → f < n → i < desktop .frame → one .bytes f i ≡ two .bytes f i
 
 -- two units read alike, and have books that agree
 abbrev pub Read-alike : {C D : Type 0} → Meaning C → History → State C → Meaning D → History → State D → Type 0
@@ -45,6 +45,10 @@ pub record Start (C : Type 0) : Type 0 where
   pub condition : C
   pub seed : ℕ
   pub calls : List Call
+
+abbrev pub start-with : {C : Type 0} → Meaning C → BankState → C → ℕ → List Call → Start C
+start-with meaning bank condition seed calls =
+    record { meaning = meaning; bank = bank; condition = condition; seed = seed; calls = calls }
 
 -- two units were started alike, and given lists alike in all but the bytes written: the same seed, the same number of
 -- frames and opening list, one pairing in one condition, and the same calls in order, with equal labels, offsets,
@@ -62,5 +66,5 @@ pub record Agree {C D : Type 0} (one : Start C) (h : History) (s : State C) (two
   pub books-from-readings : Read-alike (one .meaning) h s (two .meaning) k t → Books-agree h k
   pub readings-from-books : Books-agree h k → Read-alike (one .meaning) h s (two .meaning) k t
   -- started alike, they hold equal bytes in every frame exactly when they read alike
-  pub readings-from-frames : Started-alike one two → Same-frames (s .bank) (t .bank) → Read-alike (one .meaning) h s (two .meaning) k t
-  pub frames-from-readings : Started-alike one two → Read-alike (one .meaning) h s (two .meaning) k t → Same-frames (s .bank) (t .bank)
+  pub readings-from-frames : Started-alike one two → Same-frames (one .bank .size) (s .bank) (t .bank) → Read-alike (one .meaning) h s (two .meaning) k t
+  pub frames-from-readings : Started-alike one two → Read-alike (one .meaning) h s (two .meaning) k t → Same-frames (one .bank .size) (s .bank) (t .bank)

@@ -18,10 +18,10 @@ returns g c =
     let done = c .in-Continue-answers .ensures tt in
     let setup = c .args .setup in
     let whole : Performed meaning (g .B·Bank .model (setup .bank)) (setup .pairing) (setup .seed) (map call-of (c .args .calls .now)) (map answer-of (vec-items (c .in-Continue-answers .answers))) (state-of (g .B·Bank .model) (c .perform-all .last .pool)) =
-      record {
-        run = done .done ∙ ap (answered-by meaning (map call-of (c .args .calls .now))) (opened .opened);
-        few = opened .few;
-        proper = opened .proper;
-        known = done .known;
-      } in
+    record {
+      run = done .done ∙ ap (answered-by meaning (map call-of (c .args .calls .now))) (opened .opened);
+      few = opened .few;
+      proper = opened .proper;
+      known = done .known;
+    } in
     record { performed = whole; laws = kept lawful whole }
