@@ -8,14 +8,14 @@ use native.Mathlib.Nat.{add-zero}
 use native.Mathlib.Numerals.{one-add}
 use native.Mathlib.Omega.{arith}
 use lib.Dec.{eqb, leb}
-use lib.ListN.{length, drop, length-drop}
+use lib.ListN.{length, getD, drop, length-drop}
 use Rattle.std.specs.declared.result.Result.{Result}
 use Rattle.std.specs.declared.result.Result.the-variants.{Ok, Err}
 use Rattle.std.proofs.shelf.Lists.{append-nil}
 use Rattle.std.proofs.shelf.Tests.{cond-both, leb-true}
 use Rattle.refusal.specs.declared.Refusal.{Refusal}
 use Rattle.refusal.specs.declared.Refusal.the-variants.{Command as UnknownLetter, Cut}
-use Rattle.model.specs.Geometry.{Geometry}
+use Rattle.model.specs.Geometry.{Geometry, desktop}
 use Rattle.model.specs.State.{State}
 use Rattle.model.specs.Mesh.{Meaning}
 use Rattle.model.specs.Runs as runs
@@ -31,36 +31,49 @@ same-command a b e = cc
 no-command : (e : Refusal) (c : Command) → _≡_ {A = Result Command Refusal} (Err e) (Ok c) → ⊥
 no-command e c is = let z : _≡_ {A = ℕ} 0 1 = cc in omega arith
 
--- an answer that is a command has its operands in the bytes
-abbrev Long : List ℕ → Result Command Refusal → Type 0
-Long bytes a = (command : Command) → a ≡ Ok command → operands command ≤ length bytes
+-- what holds of each command whose operands the bytes hold, of a command of each letter, holds of the command decoded
+module _ (bytes : List ℕ) (P : Command → Type 0) where
+  abbrev pub Holds : Result Command Refusal → Type 0
+  Holds a = (command : Command) → a ≡ Ok command → P command
 
-no-long : (bytes : List ℕ) (e : Refusal) → Long bytes (Err e)
-no-long bytes e command is = absurd (no-command e command is)
+  none-holds : (e : Refusal) → Holds (Err e)
+  none-holds e command is = absurd (no-command e command is)
 
-whole-long : (bytes : List ℕ) (want : Command) → Long bytes (whole bytes want)
-whole-long bytes want =
-    cond-both (leb (operands want) (length bytes)) (Ok want) (Err Cut) (Long bytes)
-    (λ there command is. subst (λ c. operands c ≤ length bytes) (same-command want command is) (leb-true (operands want) (length bytes) there))
-    (λ short. no-long bytes Cut)
+  one-holds : (want : Command) → P want → Holds (Ok want)
+  one-holds want here command is = subst P (same-command want command is) here
 
-either : (bytes : List ℕ) (t : Bool) (a b : Result Command Refusal) → Long bytes a → Long bytes b → Long bytes (cond t a b)
-either bytes t a b one other = cond-both t a b (Long bytes) (λ e. one) (λ e. other)
+  abbrev There : Command → Type 0
+  There want = operands want ≤ length bytes → P want
 
-lettered-long : (letter : ℕ) (bytes : List ℕ) → Long bytes (lettered letter bytes)
-lettered-long letter bytes =
-    either bytes (eqb letter 78) (whole bytes (new-command bytes)) _ (whole-long bytes (new-command bytes))
-    (either bytes (eqb letter 87) (whole bytes (write-command bytes)) _ (whole-long bytes (write-command bytes))
-    (either bytes (eqb letter 82) (whole bytes (read-command bytes)) _ (whole-long bytes (read-command bytes))
-    (either bytes (eqb letter 70) (whole bytes (fetch-command bytes)) _ (whole-long bytes (fetch-command bytes))
-    (either bytes (eqb letter 80) (whole bytes (place-command bytes)) _ (whole-long bytes (place-command bytes))
-    (either bytes (eqb letter 68) (whole bytes (delete-command bytes)) _ (whole-long bytes (delete-command bytes))
-    (either bytes (eqb letter 77) (whole bytes (mesh-command bytes)) _ (whole-long bytes (mesh-command bytes))
-    (either bytes (eqb letter 67) (Ok Count) (Err UnknownLetter) (λ command is. subst (λ c. operands c ≤ length bytes) (same-command Count command is) (omega arith)) (no-long bytes UnknownLetter))))))))
+  whole-holds : (want : Command) → There want → Holds (whole bytes want)
+  whole-holds want there =
+      cond-both (leb (operands want) (length bytes)) (Ok want) (Err Cut) Holds
+      (λ long. one-holds want (there (leb-true (operands want) (length bytes) long))) (λ short. none-holds Cut)
+
+  either : (t : Bool) (a b : Result Command Refusal) → Holds a → Holds b → Holds (cond t a b)
+  either t a b one other = cond-both t a b Holds (λ e. one) (λ e. other)
+
+  pub lettered-holds : (letter : ℕ) → There (new-command bytes) → There (write-command bytes) → There (read-command bytes) → There (fetch-command bytes) → There (place-command bytes) → There (delete-command bytes) → There (mesh-command bytes) → P Count → Holds (lettered letter bytes)
+  lettered-holds letter on-new on-write on-read on-fetch on-place on-delete on-mesh on-count =
+      either (eqb letter 78) (whole bytes (new-command bytes)) _ (whole-holds (new-command bytes) on-new)
+      (either (eqb letter 87) (whole bytes (write-command bytes)) _ (whole-holds (write-command bytes) on-write)
+      (either (eqb letter 82) (whole bytes (read-command bytes)) _ (whole-holds (read-command bytes) on-read)
+      (either (eqb letter 70) (whole bytes (fetch-command bytes)) _ (whole-holds (fetch-command bytes) on-fetch)
+      (either (eqb letter 80) (whole bytes (place-command bytes)) _ (whole-holds (place-command bytes) on-place)
+      (either (eqb letter 68) (whole bytes (delete-command bytes)) _ (whole-holds (delete-command bytes) on-delete)
+      (either (eqb letter 77) (whole bytes (mesh-command bytes)) _ (whole-holds (mesh-command bytes) on-mesh)
+      (either (eqb letter 67) (Ok Count) (Err UnknownLetter) (one-holds Count on-count) (none-holds UnknownLetter))))))))
 
 pub decoded-long : (bytes : List ℕ) (command : Command) → decoded bytes ≡ Ok command → 1 + operands command ≤ length bytes
 decoded-long [] command is = absurd (no-command UnknownLetter command is)
-decoded-long (letter ∷ bytes) command is = omega (arith, lettered-long letter bytes command is)
+decoded-long (letter ∷ bytes) command is =
+    omega (arith, lettered-holds bytes (λ c. operands c ≤ length bytes) letter (λ h. h) (λ h. h) (λ h. h) (λ h. h) (λ h. h) (λ h. h) (λ h. h) (omega arith) command is)
+
+-- the label of a decoded command is one byte
+pub decoded-known : (bytes : List ℕ) (command : Command) → ((i : ℕ) → getD bytes i 0 < 256) → decoded bytes ≡ Ok command → runs.Known-label desktop (called command)
+decoded-known [] command small is = absurd (no-command UnknownLetter command is)
+decoded-known (letter ∷ bytes) command small is =
+    lettered-holds bytes (λ c. runs.Known-label desktop (called c)) letter (λ h. small 1) (λ h. small 1) (λ h. small 1) (λ h. tt) (λ h. small 1) (λ h. small 1) (λ h. tt) tt command is
 
 -- more lines in front
 abbrev pub behind : {C : Type 0} → List Line → List Line × State C → List Line × State C
