@@ -11,7 +11,7 @@ ghost use Rattle.pool.specs.View.{state-of};
 ghost use Rattle.pool.specs.Pairings.{meaning-of};
 ghost use Rattle.calls.specs.Values.{answered-by};
 ghost use Rattle.playback.specs.Playing.{played};
-ghost use Rattle.units.specs.Performed.{told};
+ghost use Rattle.model.specs.Runs.{told};
 ghost use Rattle.units.specs.Promises.{Kept};
 ghost use Rattle.desk.specs.Commands.{calls-in};
 ghost use Rattle.desk.specs.Transcript.{ended, transcript as transcript-of};

@@ -43,6 +43,12 @@ pub data Answer : Type 0 where
 abbrev pub History : Type 0
 History = List (Call × Answer)
 
+-- the history of calls whose answers were kept beside them: each call with its answer, as far as there are both
+abbrev pub told : List Call → List Answer → History
+told [] answers = []
+told (c ∷ calls) [] = []
+told (c ∷ calls) (a ∷ answers) = (c, a) ∷ told calls answers
+
 -- whether it is an answer and no refusal
 abbrev pub is-ok : {A : Type 0} → Result A Refusal → Bool
 is-ok (Ok a) = true

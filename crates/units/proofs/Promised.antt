@@ -7,13 +7,13 @@ use Rattle.bank.specs.Model.{BankState}
 use Rattle.model.specs.Geometry.{desktop}
 use Rattle.model.specs.State.{State, opened}
 use Rattle.model.specs.Mesh.{Meaning}
-use Rattle.model.specs.Runs.{Call, Answer, History, step, run, Lawful}
+use Rattle.model.specs.Runs.{Call, Answer, History, told, step, run, Lawful}
 use Rattle.calls.specs.Values.{answered-by}
 use Rattle.laws.specs.Laws.{Play, Alike, history, end}
 use Rattle.laws.proofs.Readings.{reading-law, same-readings-law}
 use Rattle.laws.proofs.Frames.{frame-law}
 use Rattle.laws.proofs.Counting.{count-law}
-use Rattle.units.specs.Performed.{told, Performed}
+use Rattle.units.specs.Performed.{Performed}
 use Rattle.units.specs.Promises.{Kept, Start, start-with, Started-alike, Agree}
 
 -- the history of a run is its calls with its answers

@@ -1,0 +1,4 @@
+pub mod Lengths
+pub mod Searches
+pub mod Telling
+pub mod Whole

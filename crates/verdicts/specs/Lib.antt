@@ -1,0 +1,3 @@
+pub mod Apart
+pub mod Hearing
+pub mod Held
