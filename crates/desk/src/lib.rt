@@ -9,16 +9,19 @@ ghost use Rattle.model.specs.Geometry.{desktop};
 ghost use Rattle.model.specs.State.{opened as opened-pool};
 ghost use Rattle.pool.specs.View.{state-of};
 ghost use Rattle.pool.specs.Pairings.{meaning-of};
-ghost use Rattle.calls.specs.Values.{answered-by};
+ghost use Rattle.calls.specs.Values.{call-of, answered-by};
 ghost use Rattle.playback.specs.Playing.{played};
 ghost use Rattle.model.specs.Runs.{told};
 ghost use Rattle.units.specs.Promises.{Kept};
 ghost use Rattle.desk.specs.Commands.{calls-in};
 ghost use Rattle.desk.specs.Transcript.{ended, transcript as transcript-of};
 use bank::Bank;
+use calls::Call;
 use pairing::Pairing;
 use playback::Line;
 use playback::LineDisplay;
+use playback::call;
+use playback::decode;
 use playback::play;
 use pool::Pool;
 use std::alloc::AllocError;
@@ -69,4 +72,22 @@ pub fn transcript(heap: Global, lines: &[Line]) -> Result<String, AllocError>
         text.push_str(told.as_str())?;
     }
     Ok(text)
+}
+
+// The calls that a list of command bytes asks for, in order, up to a fault in the list itself.
+pub fn calls_of(heap: Global, input: &[u8]) -> Result<Vec<Call>, AllocError>
+    ensures { λ r. ⌜ made r (λ calls. map call-of (vec-items calls) ≡ calls-in (now (input .entry))) ⌝ }
+{
+    let mut calls = Vec::new(heap);
+    let mut rest = input;
+    while !rest.is_empty() {
+        match decode(rest) {
+            Ok(decoded) => {
+                calls.push(call(heap, decoded.command)?)?;
+                rest = decoded.rest;
+            }
+            Err(_) => return Ok(calls),
+        }
+    }
+    Ok(calls)
 }

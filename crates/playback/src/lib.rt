@@ -5,6 +5,7 @@ mod run;
 
 pub use command::Command;
 pub use command::Decoded;
+pub use command::call;
 pub use command::decode;
 pub use line::Fault;
 pub use line::Layer;
