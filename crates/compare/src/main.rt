@@ -26,7 +26,9 @@ const MEMORY: usize = 8192;
 fn calls_in_file(rt: &LibcRuntime, path: &str) -> Result<Vec<Call>, AnyError> {
     let heap = rt.alloc();
     let mut bytes = Vec::new(heap);
-    File::open(rt, path)?.take(MOST_BYTES).read_to_end(&mut bytes)?;
+    File::open(rt, path)?
+        .take(MOST_BYTES)
+        .read_to_end(&mut bytes)?;
     Ok(calls_of(heap, bytes.as_slice())?)
 }
 
@@ -46,7 +48,10 @@ fn tell<B: Bank, P>(rt: &LibcRuntime, name: &str, unit: &mut Unit<B, P>) -> Resu
     let frames = counts.frames;
     let spans = counts.spans;
     let labels = counts.labels;
-    println!(rt, "{name}: {calls} calls, {frames} frames out, {spans} spans, {labels} labels")?;
+    println!(
+        rt,
+        "{name}: {calls} calls, {frames} frames out, {spans} spans, {labels} labels"
+    )?;
     Ok(())
 }
 

@@ -41,7 +41,13 @@ pub struct Compared<B, P, C, Q> {
 // The laws hold: what each reads is what its patch book says, its counts balance, the two read alike exactly when their
 // books agree, and, started alike and given lists alike in all but the bytes written, they hold equal bytes in every
 // frame exactly when they read alike.
-pub fn compare<B: Bank + Drop, P: Pairing + Drop, C: Bank + Drop, Q: Pairing + Drop>(heap: Global, one: Setup<B, P>, first_calls: &[Call], two: Setup<C, Q>, second_calls: &[Call]) -> Result<Compared<B, P, C, Q>, AllocError>
+pub fn compare<B: Bank + Drop, P: Pairing + Drop, C: Bank + Drop, Q: Pairing + Drop>(
+    heap: Global,
+    one: Setup<B, P>,
+    first_calls: &[Call],
+    two: Setup<C, Q>,
+    second_calls: &[Call],
+) -> Result<Compared<B, P, C, Q>, AllocError>
     ensures first { λ r. ⌜ made r (λ c. Performed (meaning-of (P·Pairing .pairs) (P·Pairing .next)) (B·Bank .model (one .bank)) (one .pairing) (one .seed) (map call-of (now («first_calls» .entry))) (map answer-of (vec-items (c .first .answers))) (state-of (B·Bank .model) (c .first .pool))) ⌝ }
     ensures second { λ r. ⌜ made r (λ c. Performed (meaning-of (Q·Pairing .pairs) (Q·Pairing .next)) (C·Bank .model (two .bank)) (two .pairing) (two .seed) (map call-of (now («second_calls» .entry))) (map answer-of (vec-items (c .second .answers))) (state-of (C·Bank .model) (c .second .pool))) ⌝ }
     ensures first_laws { λ r. ⌜ made r (λ c. Kept (meaning-of (P·Pairing .pairs) (P·Pairing .next)) (told (map call-of (now («first_calls» .entry))) (map answer-of (vec-items (c .first .answers)))) (state-of (B·Bank .model) (c .first .pool))) ⌝ }
@@ -58,7 +64,13 @@ pub fn compare<B: Bank + Drop, P: Pairing + Drop, C: Bank + Drop, Q: Pairing + D
 }
 
 // Reads two units through, and says where they differ first.
-fn judge<B: Bank + Drop, P: Pairing + Drop, C: Bank + Drop, Q: Pairing + Drop>(heap: Global, one: Unit<B, P>, first_calls: &[Call], two: Unit<C, Q>, second_calls: &[Call]) -> Result<Compared<B, P, C, Q>, AllocError>
+fn judge<B: Bank + Drop, P: Pairing + Drop, C: Bank + Drop, Q: Pairing + Drop>(
+    heap: Global,
+    one: Unit<B, P>,
+    first_calls: &[Call],
+    two: Unit<C, Q>,
+    second_calls: &[Call],
+) -> Result<Compared<B, P, C, Q>, AllocError>
     ensures first { λ r. ⌜ made r (λ c. (c .first .answers ≡ one .answers) × (state-of (B·Bank .model) (c .first .pool) ≡ state-of (B·Bank .model) (one .pool))) ⌝ }
     ensures second { λ r. ⌜ made r (λ c. (c .second .answers ≡ two .answers) × (state-of (C·Bank .model) (c .second .pool) ≡ state-of (C·Bank .model) (two .pool))) ⌝ }
     ensures label { λ r. ⌜ made r (λ c. First-apart (heard (meaning-of (P·Pairing .pairs) (P·Pairing .next)) (told (map call-of (now («first_calls» .entry))) (map answer-of (vec-items (one .answers)))) (state-of (B·Bank .model) (one .pool))) (heard (meaning-of (Q·Pairing .pairs) (Q·Pairing .next)) (told (map call-of (now («second_calls» .entry))) (map answer-of (vec-items (two .answers)))) (state-of (C·Bank .model) (two .pool))) (desktop .labels) (c .label)) ⌝ }
@@ -72,7 +84,13 @@ fn judge<B: Bank + Drop, P: Pairing + Drop, C: Bank + Drop, Q: Pairing + Drop>(h
     let second_answers = answers;
     let first_of_one = first_addresses(first_calls, first_answers.as_slice());
     let first_of_two = first_addresses(second_calls, second_answers.as_slice());
-    let label = reads_alike(heap, &mut first_pool, &first_of_one, &mut second_pool, &first_of_two)?;
+    let label = reads_alike(
+        heap,
+        &mut first_pool,
+        &first_of_one,
+        &mut second_pool,
+        &first_of_two,
+    )?;
     let frame = frames_differ(&mut first_pool, &mut second_pool);
     Ok(Compared {
         first: Unit {

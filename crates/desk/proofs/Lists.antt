@@ -34,8 +34,8 @@ next [] command some is = let never : ⊥ = omega arith in absurd never
 next (byte ∷ bytes) command some is =
     begun byte bytes ∙ ap (commanding (λ left. commands left bytes)) is
     ∙ ap (λ rest. command ∷ rest)
-      (commands-on (operands command) bytes (omega (arith, decoded-long (byte ∷ bytes) command is))
-        ∙ ap (λ k. commands 0 (drop k (byte ∷ bytes))) (sym (one-add (operands command))))
+    (commands-on (operands command) bytes (omega (arith, decoded-long (byte ∷ bytes) command is))
+    ∙ ap (λ k. commands 0 (drop k (byte ∷ bytes))) (sym (one-add (operands command))))
 
 fault : (bytes : List ℕ) (e : Refusal) → 0 < length bytes → decoded bytes ≡ Err e → commands 0 bytes ≡ []
 fault [] e some is = none-left
