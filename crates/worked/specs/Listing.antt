@@ -1,4 +1,5 @@
--- Worked examples of a pool: class boundaries, and a list of calls with its answers and its book.
+-- The worked examples, in one theorem: draws, joinings, the shuffle, pairs, class boundaries, a list of calls with its
+-- answers and its book, a stray fetch, and a quota.
 use Prim.Native.Nat.{ℕ}
 use mathlib.Core.Path.{_≡_}
 use mathlib.Core.Bool.{Bool, true, false}
@@ -11,6 +12,8 @@ use Rattle.refusal.specs.declared.Refusal.the-variants.{Size, Absent, Frames, S
 use Rattle.bank.specs.Model.{BankState}
 use Rattle.banks.specs.Frames.{fresh}
 use Rattle.banks.specs.Quota.{limited}
+use Rattle.draws.specs.Draws.{begun, drawn}
+use Rattle.pairing.specs.Worked as pairings
 use Rattle.pairing.specs.Search.{greedy-pairs}
 use Rattle.model.specs.Geometry.{desktop, class-of}
 use Rattle.model.specs.State.{State, opened}
@@ -49,6 +52,10 @@ listing =
     ∷ []
 
 pub record Worked : Type 0 where
+  -- the draws, and the joinings, the shuffle and the pairs
+  pub draws : drawn 4 (begun 1) ≡ 270369 ∷ 67634689 ∷ 2647435461 ∷ 307599695 ∷ []
+  pub pairings : pairings.Worked
+  -- class boundaries
   pub smallest : class-of desktop 1 ≡ 0
   pub last-of-0 : class-of desktop 16 ≡ 0
   pub first-of-1 : class-of desktop 17 ≡ 1

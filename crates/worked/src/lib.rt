@@ -11,7 +11,8 @@ pub fn pairings_are_lawful<P: Pairing>() -> u8
     0
 }
 
-// Class boundaries, the answers to a list of calls with a merge in it and its book, a stray fetch, and a quota.
+// All worked examples in one theorem: draws, joinings, the shuffle, the pairs of both pairings, class boundaries, the
+// answers to a list of calls with a merge in it and its book, a stray fetch, and a quota.
 pub fn worked_pool() -> u8
     ensures { λ _. ⌜ Worked ⌝ }
 {

@@ -11,6 +11,9 @@ pub returns : need.returns
 unfolding peek next class-of slot-size set-bits free-places free-place set-places best-below lowest-idle tally owner listed
 returns c =
     record {
+      draws = refl;
+      pairings =
+          record { words-join = refl; words-clash = refl; cells-join = refl; cells-clash = refl; shuffle = refl; greedy = refl; split = refl };
       smallest = refl;
       last-of-0 = refl;
       first-of-1 = refl;
