@@ -1,7 +1,7 @@
 use Rattle.std.proofs.Common.{◌≡◌, set, Ok, unwrap_or, ◌∙◌, arith}
 use Rattle.joining.proofs.Places.{over_more, over_some, over_none, over_all, answers_joined}
 use Rattle.joining.proofs.rows.write_joined.Goals as goal
-use Rattle.joining.proofs.rows.write_joined.Goals.{in-Some, in-default}
+use Rattle.joining.proofs.rows.write_joined.Goals.{in-Some, in_default}
 
 pub loop-i-preserved : goal.loop-i-preserved
 loop-i-preserved g c =
@@ -14,10 +14,10 @@ loop-i-preserved g c =
           w.first-is
           ∙ over_some g.T.Join.joined c.loop-i.first c.loop-i.i c.index-first-i.result c.index-second-i.result
           w.in-Some.both c.join.result c.join.ensures w.in-Some.is
-      | in-default w ↦
+      | in_default w ↦
           w.first-is
           ∙ over_none g.T.Join.joined c.loop-i.first c.loop-i.i c.index-first-i.result c.index-second-i.result
-          c.join.result c.index-first-i.is c.join.ensures w.in-default.is
+          c.join.result c.index-first-i.is c.join.ensures w.in_default.is
     ]
     in
     written

@@ -7,8 +7,8 @@ use Rattle.pairing.proofs.halves.offer_pass.Goals as goal
 pub loop-j-preserved : goal.loop-j-preserved
 loop-j-preserved c =
     let turn = shifted_turn c.args.masks.now c.args.order.now (length c.args.masks.now / 2) c.args.shift in (
-      c.offer-shifted.ensures.listed
+      c.offer_shifted.ensures.listed
           ∙ ap (λ ps. turn ps c.loop-j.j) c.loop-j.invariant.0
           ∙ sym (folded_counting_more turn (listed c.args.found.now) c.loop-j.j),
-      c.offer-shifted.ensures.sound,
+      c.offer_shifted.ensures.sound,
     )

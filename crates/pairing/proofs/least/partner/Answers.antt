@@ -6,11 +6,11 @@ use Rattle.pairing.specs.Folds.{first_here, first_later}
 use Rattle.pairing.specs.Turns.{least_lawful}
 use Rattle.pairing.proofs.least.partner.Goals as goal
 
-pub returns-then-may-take : goal.returns-then-may-take
-returns-then-may-take c =
+pub returns-then-may_take : goal.returns-then-may_take
+returns-then-may_take c =
     let least : Some c.loop-other.other ≡ least_from c.args.masks.now (listed c.args.found.now) c.args.place (c.args.place + 1) =
     sym (first_here (takes c.args.masks.now (listed c.args.found.now) c.args.place) c.loop-other.other (length c.args.masks.now)
-    (omega arith) (sym c.if-may-take.ensures))
+    (omega arith) (sym c.if-may_take.ensures))
     ∙ c.loop-other.invariant in
     record {
       least = least;
@@ -21,5 +21,5 @@ returns-then-may-take c =
 pub loop-other-preserved : goal.loop-other-preserved
 loop-other-preserved c =
     sym (first_later (takes c.args.masks.now (listed c.args.found.now) c.args.place) c.loop-other.other (length c.args.masks.now)
-    (omega arith) (sym c.if-may-take.ensures))
+    (omega arith) (sym c.if-may_take.ensures))
     ∙ c.loop-other.invariant

@@ -5,8 +5,8 @@ use Rattle.pairing.proofs.least.search.Goals as goal
 
 pub loop-place-preserved : goal.loop-place-preserved
 loop-place-preserved c = (
-  c.take-turn.ensures.listed
+  c.take_turn.ensures.listed
       ∙ ap (λ ps. turn c.args.masks.now ps c.loop-place.place) c.loop-place.invariant.0
       ∙ sym (folded_counting_more (turn c.args.masks.now) [] c.loop-place.place),
-  c.take-turn.ensures.sound,
+  c.take_turn.ensures.sound,
 )

@@ -27,6 +27,6 @@ pub returns-in-257-to-512 : goal.returns-in-257-to-512
 unfolding class_of
 returns-in-257-to-512 c = grind (arith, nat_tests)
 
-pub returns-in-default : goal.returns-in-default
+pub returns-in_default : goal.returns-in_default
 unfolding class_of
-returns-in-default c = grind (arith, nat_tests)
+returns-in_default c = grind (arith, nat_tests)

@@ -11,6 +11,6 @@ returns c =
     let room : o + length bs ≤ length xs = omega (arith, c.requires, whole-within (length xs)) in
     let size : o + length bs - o ≡ length bs = omega arith in
     record {
-      frames = ap whole_frames (part_length xs bs c.copy-from-slice.new.self o (o + length bs - o) room c.copy-from-slice.ensures.after size);
-      bytes = part_bytes xs bs c.copy-from-slice.new.self o (o + length bs - o) room c.copy-from-slice.ensures.after size;
+      frames = ap whole_frames (part_length xs bs c.copy_from_slice.new.self o (o + length bs - o) room c.copy_from_slice.ensures.after size);
+      bytes = part_bytes xs bs c.copy_from_slice.new.self o (o + length bs - o) room c.copy_from_slice.ensures.after size;
     }

@@ -9,9 +9,9 @@ returns g c =
     record {
       step =
           bank-read (g.S.Store.frames store) c.frames-frames.result byte c.args.self.now.spares
-          c.args.frame c.args.offset c.args.buffer.now c.read-frame.new.buffer
-          c.frames-frames.ensures.value c.if-not-fits.ensures c.if-not-is-out.ensures
-          c.read-frame.ensures;
+          c.args.frame c.args.offset c.args.buffer.now c.read_frame.new.buffer
+          c.frames-frames.ensures.value c.if-not-fits.ensures c.if-not-is_out.ensures
+          c.read_frame.ensures;
       same = refl;
       store = refl;
     }

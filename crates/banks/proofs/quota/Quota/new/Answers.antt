@@ -11,13 +11,13 @@ returns g c =
     let before = g.B.Bank.model c.args.below in
     let after = g.B.Bank.model c.reset.new.self in
     let limit = c.args.limit in
-    let all = c.left-of.ensures.value ∙ sub-zero limit in
+    let all = c.left_of.ensures.value ∙ sub-zero limit in
     record {
       below = c.reset.ensures.after;
       model = ap (λ left. limited limit left after) all ∙ ap (limited limit limit) c.reset.ensures.after;
       limit = refl;
       balanced =
           subst (λ left. Balanced limit left after) (sym all)
-          (balanced-reset limit before after c.left-of.ensures.byte c.reset.ensures.after);
+          (balanced-reset limit before after c.left_of.ensures.byte c.reset.ensures.after);
       sound = subst Sound (sym c.reset.ensures.after) (reset_sound before c.reset.ensures.few c.reset.ensures.proper);
     }

@@ -10,12 +10,12 @@ returns-in-Ok g c =
     let after = g.B.Bank.model c.give_back.new.self in
     let below = c.in-Ok.ensures in
     record {
-      step = limited-give_back limit left c.one-more-left.result before after c.args.frame c.one-more-left.ensures below.few below.step;
+      step = limited-give_back limit left c.one_more-left.result before after c.args.frame c.one_more-left.ensures below.few below.step;
       few = limited-few left before.spare below.few;
       quota =
           record {
             same_limit = refl;
-            balance = balance-give_back limit left c.one-more-left.result before after c.args.frame c.one-more-left.ensures below.step;
+            balance = balance-give_back limit left c.one_more-left.result before after c.args.frame c.one_more-left.ensures below.step;
           };
     }
 

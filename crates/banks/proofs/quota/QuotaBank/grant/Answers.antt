@@ -11,9 +11,9 @@ returns-in-Ok g c =
     let some : 0 < left = omega arith in
     let below = c.in-Ok.ensures in
     record {
-      step = limited-grant limit left c.one-less-left.result before after c.in-Ok.frame some (omega arith) below.step;
+      step = limited-grant limit left c.one_less-left.result before after c.in-Ok.frame some (omega arith) below.step;
       bound = below.bound;
-      quota = record { same_limit = refl; balance = balance-grant limit left c.one-less-left.result before after c.in-Ok.frame some (omega arith) below.step };
+      quota = record { same_limit = refl; balance = balance-grant limit left c.one_less-left.result before after c.in-Ok.frame some (omega arith) below.step };
     }
 
 pub returns-in-Err : goal.returns-in-Err

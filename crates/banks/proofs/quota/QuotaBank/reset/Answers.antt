@@ -10,7 +10,7 @@ returns g c =
     let before = g.B.Bank.model c.args.self.now.below in
     let after = g.B.Bank.model c.reset.new.self in
     let limit = c.args.self.now.limit in
-    let all = c.left-of-left.ensures.value ∙ sub-zero limit in
+    let all = c.left_of-left.ensures.value ∙ sub-zero limit in
     record {
       after = ap (λ left. limited limit left after) all ∙ ap (limited limit limit) c.reset.ensures.after;
       few = c.reset.ensures.few;
@@ -18,5 +18,5 @@ returns g c =
       limit = refl;
       balanced =
           subst (λ left. Balanced limit left after) (sym all)
-          (balanced-reset limit before after c.left-of-left.ensures.byte c.reset.ensures.after);
+          (balanced-reset limit before after c.left_of-left.ensures.byte c.reset.ensures.after);
     }

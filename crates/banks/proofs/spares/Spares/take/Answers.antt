@@ -17,7 +17,7 @@ pub returns : goal.returns
 returns c =
     record {
       step =
-          taken_next c.args.frames c.args.self.now c.mark-out.new.self c.after-next.result (omega arith)
-          (omega arith) c.if-self-head.false c.after-next.ensures c.mark-out.ensures;
+          taken_next c.args.frames c.args.self.now c.mark_out.new.self c.after-next.result (omega arith)
+          (omega arith) c.if-self-head.false c.after-next.ensures c.mark_out.ensures;
       below = search rules;
     }

@@ -9,5 +9,5 @@ take-requires c =
       sound = c.requires.sound;
       few = c.requires.few;
       lawful = taken_lawful c.args.masks.now (listed c.args.self.now) c.args.left c.args.right c.requires.sound.lawful
-          c.requires.within.0 c.requires.within.1 c.requires.differ (sym c.if-is-free.ensures) (sym c.if-may-take.ensures);
+          c.requires.within.0 c.requires.within.1 c.requires.differ (sym c.if-is_free.ensures) (sym c.if-may_take.ensures);
     }

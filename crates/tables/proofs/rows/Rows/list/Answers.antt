@@ -4,7 +4,7 @@ use Rattle.model.specs.Mesh.{of_class, listed}
 use Rattle.tables.specs.Views.{rows_of}
 use Rattle.tables.proofs.Loops.{listed_yes, listed_no}
 use Rattle.tables.proofs.rows.Rows.list.Goals as goal
-use Rattle.tables.proofs.rows.Rows.list.Goals.{then-is-of-class, else-is-of-class}
+use Rattle.tables.proofs.rows.Rows.list.Goals.{then-is_of_class, else-is_of_class}
 
 pub loop-frame-preserved : goal.loop-frame-preserved
 loop-frame-preserved c =
@@ -13,19 +13,19 @@ loop-frame-preserved c =
     let count = c.loop-frame.count in
     let frames = c.loop-frame.frames in
     let test : ℕ → Bool = λ f. of_class c.args.class (get_or (rows_of c.args.self.now) f None) in
-    let here : c.is-of-class.result ≡ test n = c.is-of-class.ensures ∙ ap (of_class c.args.class) c.row.ensures in
-    elim c.if-is-of-class.branch [
-      | then-is-of-class w ↦ (
+    let here : c.is_of_class.result ≡ test n = c.is_of_class.ensures ∙ ap (of_class c.args.class) c.row.ensures in
+    elim c.if-is_of_class.branch [
+      | then-is_of_class w ↦ (
         omega (arith, w.count-is, inv.0),
         ap length w.frames-is ∙ length-set frames count n ∙ inv.1,
-        ap (λ k. take k c.if-is-of-class.frames) w.count-is ∙ ap (take (count + 1)) w.frames-is
-            ∙ listed_yes test n count frames inv.2 (omega (arith, inv.0, inv.1)) (sym here ∙ w.if-is-of-class.true),
+        ap (λ k. take k c.if-is_of_class.frames) w.count-is ∙ ap (take (count + 1)) w.frames-is
+            ∙ listed_yes test n count frames inv.2 (omega (arith, inv.0, inv.1)) (sym here ∙ w.if-is_of_class.true),
       )
-      | else-is-of-class w ↦ (
+      | else-is_of_class w ↦ (
         omega (arith, w.count-is, inv.0),
         ap length w.frames-is ∙ inv.1,
-        ap (λ k. take k c.if-is-of-class.frames) w.count-is ∙ ap (take count) w.frames-is
-            ∙ listed_no test n count frames inv.2 (sym here ∙ w.if-is-of-class.false),
+        ap (λ k. take k c.if-is_of_class.frames) w.count-is ∙ ap (take count) w.frames-is
+            ∙ listed_no test n count frames inv.2 (sym here ∙ w.if-is_of_class.false),
       )
     ]
 

@@ -8,5 +8,5 @@ use Rattle.tables.proofs.spans.Spans.apply_to_all.Goals as goal
 pub returns : goal.returns
 returns c =
     let reads : List Span → ℕ → Span = λ spans h. get_or spans h Idle in
-    ap reads c.apply-each.ensures
+    ap reads c.apply_each.ensures
     ∙ read-map (after c.args.event) Idle c.requires c.args.self.now.table
