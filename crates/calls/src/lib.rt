@@ -1,8 +1,8 @@
 // The calls of a pool as values, so that lists of them can be kept, passed and performed.
 ghost use Rattle.std.specs.Prelude.{◌≡◌, map, replicate, IfOk, OnErr, OnOk};
 ghost use Rattle.model.specs.Geometry.{desktop};
-ghost use Rattle.model.specs.Calls.{read as Read-step, fetch as fetch-step};
-ghost use Rattle.model.specs.Runs.{step as model-step, filled, KnownLabel, KnownLabels};
+ghost use Rattle.model.specs.Calls.{read as read_step, fetch as fetch_step};
+ghost use Rattle.model.specs.Runs.{step as model_step, filled, KnownLabel, KnownLabels};
 ghost use Rattle.pool.specs.View.{state_of};
 ghost use Rattle.pool.specs.Pairings.{meaning_of};
 ghost use Rattle.calls.specs.Values.{call_of, answer_of, bytes_of, answered_by, RanAFront};
@@ -57,7 +57,7 @@ fn read_bytes<B: Bank, P>(
     offset: u32,
     count: u32,
 ) -> Result<Result<Vec<u8>, Refusal>, AllocError>
-    ensures bytes { IfOk result (λ read. bytes_of read ≡ filled (Read-step desktop label offset (replicate count 0) (state_of B.Bank.model pool.old))) }
+    ensures bytes { IfOk result (λ read. bytes_of read ≡ filled (read_step desktop label offset (replicate count 0) (state_of B.Bank.model pool.old))) }
     ensures same { state_of B.Bank.model pool.new ≡ state_of B.Bank.model pool.old }
 {
     let mut buffer = zeros(heap, count)?;
@@ -74,7 +74,7 @@ fn fetch_bytes<B: Bank, P>(
     address: u32,
     count: u32,
 ) -> Result<Result<Vec<u8>, Refusal>, AllocError>
-    ensures bytes { IfOk result (λ read. bytes_of read ≡ filled (fetch-step desktop address (replicate count 0) (state_of B.Bank.model pool.old))) }
+    ensures bytes { IfOk result (λ read. bytes_of read ≡ filled (fetch_step desktop address (replicate count 0) (state_of B.Bank.model pool.old))) }
     ensures same { state_of B.Bank.model pool.new ≡ state_of B.Bank.model pool.old }
 {
     let mut buffer = zeros(heap, count)?;
@@ -90,7 +90,7 @@ pub fn perform<B: Bank, P: Pairing>(
     pool: &mut Pool<B, P>,
     call: &Call,
 ) -> Result<Answer, AllocError>
-    ensures done { IfOk result (λ a. (answer_of a, state_of B.Bank.model pool.new) ≡ model-step desktop (meaning_of P.Pairing.pairs P.Pairing.next) (call_of call.now) (state_of B.Bank.model pool.old)) }
+    ensures done { IfOk result (λ a. (answer_of a, state_of B.Bank.model pool.new) ≡ model_step desktop (meaning_of P.Pairing.pairs P.Pairing.next) (call_of call.now) (state_of B.Bank.model pool.old)) }
     ensures undone { OnErr result (state_of B.Bank.model pool.new ≡ state_of B.Bank.model pool.old) }
     ensures known { KnownLabel desktop (call_of call.now) }
 {

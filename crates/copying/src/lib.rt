@@ -1,7 +1,7 @@
 // What a pool does to the bytes of slots: clearing one, and copying those that a merge moves.
 ghost use Rattle.std.specs.Prelude.{◌≡◌, ℕ, ◌-◌, ◌*◌, ◌≤◌, map, length, take, replicate, Ok};
 ghost use Rattle.joining.specs.declared.kinds.Cell.TheVariants.{Empty, Full};
-ghost use Rattle.bank.specs.Model.{read as Read-step, write as write_step};
+ghost use Rattle.bank.specs.Model.{read as read_step, write as write_step};
 ghost use Rattle.model.specs.Geometry.{desktop, places};
 ghost use Rattle.model.specs.Masks.{set_bits, set_places};
 ghost use Rattle.copying.specs.Done.{done_of};
@@ -106,7 +106,7 @@ fn copy_through<B: Bank>(
 ) -> Result<(), Refusal>
     requires source { length source.old ≡ length bytes.old }
     requires destination { destination.old ≡ replicate (length bytes.old) Empty }
-    ensures { (result, B.Bank.model bank.new) ≡ cells_read to offset (Read-step from offset bytes.old (B.Bank.model bank.old)) (B.Bank.model bank.old) }
+    ensures { (result, B.Bank.model bank.new) ≡ cells_read to offset (read_step from offset bytes.old (B.Bank.model bank.old)) (B.Bank.model bank.old) }
 {
     bank.read(from, offset, bytes)?;
     fill_cells(source, bytes);

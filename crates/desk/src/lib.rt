@@ -1,7 +1,7 @@
 // The desk: a list of command bytes played on a unit, from its start to its listing.
 ghost use Rattle.std.specs.Prelude.{◌≡◌, map, IfOk, string_bytes};
 ghost use Rattle.model.specs.Geometry.{desktop};
-ghost use Rattle.model.specs.State.{opened as opened-pool};
+ghost use Rattle.model.specs.State.{opened as opened_pool};
 ghost use Rattle.pool.specs.View.{state_of};
 ghost use Rattle.pool.specs.Pairings.{meaning_of};
 ghost use Rattle.calls.specs.Values.{call_of, answered_by};
@@ -9,7 +9,7 @@ ghost use Rattle.playback.specs.Playing.{played};
 ghost use Rattle.model.specs.Runs.{told};
 ghost use Rattle.units.specs.Promises.{Kept};
 ghost use Rattle.desk.specs.Commands.{calls_in};
-ghost use Rattle.desk.specs.Transcript.{ended, transcript as transcript-of};
+ghost use Rattle.desk.specs.Transcript.{ended, transcript as transcript_of};
 
 use bank::Bank;
 use calls::Call;
@@ -33,8 +33,8 @@ pub fn play_on<B: Bank + Drop, P: Pairing + Drop>(
     setup: Setup<B, P>,
     input: &[u8],
 ) -> Result<Played<B, P>, AllocError>
-    ensures lines { IfOk result (λ d. (d.lines.items, state_of B.Bank.model d.pool) ≡ played desktop (meaning_of P.Pairing.pairs P.Pairing.next) input.now (opened-pool desktop (B.Bank.model setup.bank) setup.pairing setup.seed)) }
-    ensures laws { IfOk result (λ d. Kept (meaning_of P.Pairing.pairs P.Pairing.next) (told (calls_in input.now) (answered_by (meaning_of P.Pairing.pairs P.Pairing.next) (calls_in input.now) (opened-pool desktop (B.Bank.model setup.bank) setup.pairing setup.seed)).0) (state_of B.Bank.model d.pool)) }
+    ensures lines { IfOk result (λ d. (d.lines.items, state_of B.Bank.model d.pool) ≡ played desktop (meaning_of P.Pairing.pairs P.Pairing.next) input.now (opened_pool desktop (B.Bank.model setup.bank) setup.pairing setup.seed)) }
+    ensures laws { IfOk result (λ d. Kept (meaning_of P.Pairing.pairs P.Pairing.next) (told (calls_in input.now) (answered_by (meaning_of P.Pairing.pairs P.Pairing.next) (calls_in input.now) (opened_pool desktop (B.Bank.model setup.bank) setup.pairing setup.seed)).0) (state_of B.Bank.model d.pool)) }
 {
     let Setup {
         bank,
@@ -55,7 +55,7 @@ fn ended_line(heap: Global, line: Line) -> Result<String, AllocError>
 
 // The listing: the header, and the lines, each ended by a newline.
 pub fn transcript(heap: Global, lines: &[Line]) -> Result<String, AllocError>
-    ensures { IfOk result (λ text. string_bytes text ≡ transcript-of lines.now) }
+    ensures { IfOk result (λ text. string_bytes text ≡ transcript_of lines.now) }
 {
     let mut text = String::from_str(heap, "at cmd answer frames\n")?;
     for line in lines {

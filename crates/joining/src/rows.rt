@@ -1,6 +1,6 @@
 // The joining of two rows: one text for every kind of element that joins.
 ghost use Rattle.std.specs.Prelude.{◌≡◌, true, length, is_some, Ok};
-ghost use Rattle.joining.specs.Rows.{rows as row-join, rows_joined, RowsKeepLaws};
+ghost use Rattle.joining.specs.Rows.{rows as row_join, rows_joined, RowsKeepLaws};
 
 use crate::element::Join;
 use refusal::Refusal;
@@ -23,7 +23,7 @@ pub fn join_rows<T: Join + Copy>(first: &mut [T], second: &[T]) -> Result<(), Re
 // Whether two rows of one length join.
 fn rows_join<T: Join + Copy>(first: &[T], second: &[T]) -> bool
     requires { length first.now ≡ length second.now }
-    ensures { result ≡ is_some (row-join T.Join.joined first.now second.now) }
+    ensures { result ≡ is_some (row_join T.Join.joined first.now second.now) }
 {
     for i in 0..first.len() {
         if first[i].join(second[i]).is_none() {
@@ -36,7 +36,7 @@ fn rows_join<T: Join + Copy>(first: &[T], second: &[T]) -> bool
 // Writes the join over each element of the first row. The rows have been found to join.
 fn write_joined<T: Join + Copy>(first: &mut [T], second: &[T])
     requires same { length first.old ≡ length second.now }
-    requires joins { is_some (row-join T.Join.joined first.old second.now) ≡ true }
+    requires joins { is_some (row_join T.Join.joined first.old second.now) ≡ true }
     ensures { (Ok tt, first.new) ≡ rows_joined T.Join.joined first.old second.now }
 {
     for i in 0..first.len() {

@@ -1,7 +1,7 @@
 // The playing of a list.
 ghost use Rattle.std.specs.Prelude.{◌≡◌, IfOk};
 ghost use Rattle.model.specs.Geometry.{desktop};
-ghost use Rattle.model.specs.Runs.{step as model-step};
+ghost use Rattle.model.specs.Runs.{step as model_step};
 ghost use Rattle.pool.specs.View.{state_of};
 ghost use Rattle.pool.specs.Pairings.{meaning_of};
 ghost use Rattle.playback.specs.Format.{called};
@@ -23,7 +23,7 @@ fn perform_command<B: Bank, P: Pairing>(
     at: usize,
     command: Command,
 ) -> Result<Line, AllocError>
-    ensures { IfOk result (λ line. (line, state_of B.Bank.model pool.new) ≡ told_with desktop at command (model-step desktop (meaning_of P.Pairing.pairs P.Pairing.next) (called command) (state_of B.Bank.model pool.old))) }
+    ensures { IfOk result (λ line. (line, state_of B.Bank.model pool.new) ≡ told_with desktop at command (model_step desktop (meaning_of P.Pairing.pairs P.Pairing.next) (called command) (state_of B.Bank.model pool.old))) }
 {
     let call = call(heap, command)?;
     let answer = perform(heap, pool, &call)?;

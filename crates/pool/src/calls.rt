@@ -6,9 +6,9 @@ ghost use Rattle.bank.specs.Model.{most_frames};
 ghost use Rattle.bank.specs.Sound.{Proper};
 ghost use Rattle.draws.specs.Draws.{next};
 ghost use Rattle.model.specs.declared.Made.{Made as MadeOf};
-ghost use Rattle.model.specs.Geometry.{desktop, slots as slots-of};
-ghost use Rattle.model.specs.State.{State, opened as opened-pool};
-ghost use Rattle.model.specs.Calls.{occupied as occupied-in, placed, opening, lowest_idle, new as new-step, write as write_step, read as Read-step, fetch as fetch-step, place as place-step, count as count-step};
+ghost use Rattle.model.specs.Geometry.{desktop, slots as slots_of};
+ghost use Rattle.model.specs.State.{State, opened as opened_pool};
+ghost use Rattle.model.specs.Calls.{occupied as occupied_in, placed, opening, lowest_idle, new as new_step, write as write_step, read as read_step, fetch as fetch_step, place as place_step, count as count_step};
 ghost use Rattle.pool.specs.View.{state_of};
 
 use crate::Pool;
@@ -37,7 +37,7 @@ impl<B: Bank, P> Pool<B, P> {
     where
         B: Drop,
         P: Drop,
-        ensures opened { IfOk result (λ p. state_of B.Bank.model p ≡ opened-pool desktop (B.Bank.model bank) pairing seed) }
+        ensures opened { IfOk result (λ p. state_of B.Bank.model p ≡ opened_pool desktop (B.Bank.model bank) pairing seed) }
         ensures few { OnOk result ((B.Bank.model bank).size ≤ most_frames) }
         ensures proper { OnOk result (Proper (B.Bank.model bank).size (B.Bank.model bank).opening) }
     {
@@ -59,7 +59,7 @@ impl<B: Bank, P> Pool<B, P> {
     // SIZE for a length of 0 or above 512, TAKEN for a live label, SPANS where a span is needed and none is idle,
     // FRAMES where a frame is needed and none is spare.
     pub fn new(&mut self, label: u8, length: u32) -> Result<Made, Refusal>
-        ensures { (result, state_of B.Bank.model self.new) ≡ new-step desktop label length (state_of B.Bank.model self.old) }
+        ensures { (result, state_of B.Bank.model self.new) ≡ new_step desktop label length (state_of B.Bank.model self.old) }
     {
         if length == 0 || length > LONGEST {
             return Err(Refusal::Size);
@@ -92,7 +92,7 @@ impl<B: Bank, P> Pool<B, P> {
 
     // Takes the free slot that one draw picks in a frame, for the label's patch.
     fn take_slot(&mut self, label: u8, length: u16, frame: u32, row: Row, opened: bool) -> Made
-        requires { occupied-in desktop row < slots-of desktop row.class }
+        requires { occupied_in desktop row < slots_of desktop row.class }
         ensures { ◌≡◌ {A = Result MadeOf Refused × State P} (Ok result, state_of B.Bank.model self.new) (placed desktop label length frame row opened (next self.old.draws.state) (state_of B.Bank.model self.old)) }
     {
         let drawn = self.draws.draw();
@@ -138,7 +138,7 @@ impl<B: Bank, P> Pool<B, P> {
 
     // Fills the buffer with the bytes of the label's patch from the offset on; refuses as `write` does.
     pub fn read(&mut self, label: u8, offset: u32, buffer: &mut [u8]) -> Result<(), Refusal>
-        ensures step { (result, buffer.new) ≡ Read-step desktop label offset buffer.old (state_of B.Bank.model self.old) }
+        ensures step { (result, buffer.new) ≡ read_step desktop label offset buffer.old (state_of B.Bank.model self.old) }
         ensures same { state_of B.Bank.model self.new ≡ state_of B.Bank.model self.old }
     {
         let Some(patch) = self.labels.patch(label) else {
@@ -158,7 +158,7 @@ impl<B: Bank, P> Pool<B, P> {
     //
     // ADDRESS for an address past the last span, STRAY where no live patch holds the address and the whole stretch.
     pub fn fetch(&mut self, address: u32, buffer: &mut [u8]) -> Result<(), Refusal>
-        ensures step { (result, buffer.new) ≡ fetch-step desktop address buffer.old (state_of B.Bank.model self.old) }
+        ensures step { (result, buffer.new) ≡ fetch_step desktop address buffer.old (state_of B.Bank.model self.old) }
         ensures same { state_of B.Bank.model self.new ≡ state_of B.Bank.model self.old }
     {
         if address >= ADDRESSES {
@@ -179,7 +179,7 @@ impl<B: Bank, P> Pool<B, P> {
 
     // The address of the label's patch; ABSENT for a label that is not live.
     pub fn place(&mut self, label: u8) -> Result<u32, Refusal>
-        ensures address { result ≡ place-step desktop label (state_of B.Bank.model self.old) }
+        ensures address { result ≡ place_step desktop label (state_of B.Bank.model self.old) }
         ensures same { state_of B.Bank.model self.new ≡ state_of B.Bank.model self.old }
     {
         let Some(patch) = self.labels.patch(label) else {
@@ -190,7 +190,7 @@ impl<B: Bank, P> Pool<B, P> {
 
     // How many frames are out, how many spans are not idle, and how many labels are live.
     pub fn count(&mut self) -> Counts
-        ensures counts { result ≡ count-step desktop (state_of B.Bank.model self.old) }
+        ensures counts { result ≡ count_step desktop (state_of B.Bank.model self.old) }
         ensures same { state_of B.Bank.model self.new ≡ state_of B.Bank.model self.old }
     {
         Counts {

@@ -1,6 +1,6 @@
 // What a pool's bank holds, for those who would see every byte of it.
 ghost use Rattle.std.specs.Prelude.{◌≡◌};
-ghost use Rattle.bank.specs.Model.{read as read-frame};
+ghost use Rattle.bank.specs.Model.{read as read_frame};
 ghost use Rattle.pool.specs.View.{state_of};
 
 use crate::Pool;
@@ -20,7 +20,7 @@ impl<B: Bank, P> Pool<B, P> {
     //
     // EDGE where the buffer is longer than a frame, NOT OUT for a frame that is not out.
     pub fn frame(&mut self, frame: u32, buffer: &mut [u8]) -> Result<(), Refusal>
-        ensures step { (result, buffer.new) ≡ read-frame frame 0 buffer.old (state_of B.Bank.model self.old).bank }
+        ensures step { (result, buffer.new) ≡ read_frame frame 0 buffer.old (state_of B.Bank.model self.old).bank }
         ensures same { state_of B.Bank.model self.new ≡ state_of B.Bank.model self.old }
     {
         self.bank.read(frame, 0, buffer)

@@ -1,7 +1,7 @@
 // The call that takes a patch out of the pool.
 ghost use Rattle.std.specs.Prelude.{◌≡◌, Some};
 ghost use Rattle.model.specs.Geometry.{desktop};
-ghost use Rattle.model.specs.Calls.{delete as delete-step, clearing, freed, emptied};
+ghost use Rattle.model.specs.Calls.{delete as delete_step, clearing, freed, emptied};
 ghost use Rattle.bank.specs.Model.{give_back as giving};
 ghost use Rattle.pool.specs.View.{state_of};
 
@@ -19,7 +19,7 @@ impl<B: Bank, P> Pool<B, P> {
     //
     // ABSENT for a label that is not live.
     pub fn delete(&mut self, label: u8) -> Result<bool, Refusal>
-        ensures { (result, state_of B.Bank.model self.new) ≡ delete-step desktop label (state_of B.Bank.model self.old) }
+        ensures { (result, state_of B.Bank.model self.new) ≡ delete_step desktop label (state_of B.Bank.model self.old) }
     {
         let Some(patch) = self.labels.patch(label) else {
             return Err(Refusal::Absent);

@@ -1,7 +1,7 @@
 // The call that tidies a class: frames whose patches fill different slots are laid onto one another.
 ghost use Rattle.std.specs.Prelude.{◌≡◌, ℕ, ◌≤◌, List, map, length, take, None, slice_index, slice_index_or};
 ghost use Rattle.model.specs.Geometry.{desktop};
-ghost use Rattle.model.specs.Mesh.{receives as row-receives, no_merge, merge as merge_step, merge_into as merging, merged, meshing, mesh as mesh-step};
+ghost use Rattle.model.specs.Mesh.{receives as row_receives, no_merge, merge as merge_step, merge_into as merging, merged, meshing, mesh as mesh_step};
 ghost use Rattle.pool.specs.View.{state_of};
 ghost use Rattle.pool.specs.Pairings.{meaning_of, places_of, Few};
 
@@ -18,7 +18,7 @@ use tables::masks::occupied;
 // Whether the first of two frames is the destination of their merge: it has more occupied slots, and of equals the
 // lower number.
 fn receives(frame: u32, row: Row, other: u32, other_row: Row) -> bool
-    ensures { result ≡ row-receives desktop frame row other other_row }
+    ensures { result ≡ row_receives desktop frame row other other_row }
 {
     let here = occupied(row.mask);
     let there = occupied(other_row.mask);
@@ -120,7 +120,7 @@ impl<B: Bank, P: Pairing> Pool<B, P> {
     //
     // CLASS for a class above 5.
     pub fn mesh(&mut self, class: u8) -> Result<Meshed, Refusal>
-        ensures { (result, state_of B.Bank.model self.new) ≡ mesh-step desktop (meaning_of P.Pairing.pairs P.Pairing.next) class (state_of B.Bank.model self.old) }
+        ensures { (result, state_of B.Bank.model self.new) ≡ mesh_step desktop (meaning_of P.Pairing.pairs P.Pairing.next) class (state_of B.Bank.model self.old) }
     {
         if class > 5 {
             return Err(Refusal::Class);

@@ -1,6 +1,6 @@
 // The sizes of the desktop unit: classes of slots, and where a slot lies in its frame.
 ghost use Rattle.std.specs.Prelude.{◌≡◌, ℕ, ◌+◌, ◌*◌, ◌<◌, ◌≤◌};
-ghost use Rattle.model.specs.Geometry.{desktop, class_of as class-for, slot_size, slots as slots-of, slot_offset, address_of as address_in};
+ghost use Rattle.model.specs.Geometry.{desktop, class_of as class_for, slot_size, slots as slots_of, slot_offset, address_of as address_in};
 
 use model::Patch;
 
@@ -15,7 +15,7 @@ pub const LONGEST: u32 = 512;
 
 // The least class whose slot holds a patch of this length.
 pub fn class_of(length: u16) -> u8
-    ensures class { result ≡ class-for desktop length }
+    ensures class { result ≡ class_for desktop length }
 {
     match length {
         0..=16 => 0,
@@ -47,7 +47,7 @@ pub fn slot_size(class: u8) -> u32
 
 // How many slots of a class a frame has.
 pub fn slots(class: u8) -> u32
-    ensures slots { result ≡ slots-of desktop class }
+    ensures slots { result ≡ slots_of desktop class }
     ensures high { result ≤ 64 }
 {
     FRAME_BYTES / slot_size(class)

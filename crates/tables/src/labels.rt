@@ -2,7 +2,7 @@
 ghost use Rattle.std.specs.Prelude.{◌≡◌, ◌+◌, ◌*◌, ◌≤◌, ◌&&◌, is_some, Some, None, nat_le, nat_lt};
 ghost use Rattle.bank.specs.Tables.{put};
 ghost use Rattle.model.specs.Geometry.{desktop};
-ghost use Rattle.model.specs.Calls.{tally, holds as holds-in, owner as owner_of};
+ghost use Rattle.model.specs.Calls.{tally, holds as holds_in, owner as owner_of};
 ghost use Rattle.tables.specs.Views.{labels_of};
 
 use crate::geometry::address_of;
@@ -63,7 +63,7 @@ impl Labels {
 
 // Whether a patch's bytes include the address and so many bytes from there.
 fn holds(patch: &Option<Patch>, address: u32, count: usize) -> bool
-    ensures { result ≡ holds-in desktop address count patch.now }
+    ensures { result ≡ holds_in desktop address count patch.now }
 {
     match patch {
         Some(patch) => lies_in(address, count, address_of(*patch), patch.length),

@@ -1,7 +1,7 @@
 // Masks of occupied slots: bit s is slot s.
 ghost use Rattle.std.specs.Prelude.{◌≡◌, ℕ, ◌<◌, ◌≤◌};
 ghost use Rattle.model.specs.Geometry.{desktop, places};
-ghost use Rattle.model.specs.Masks.{bit, set_bits, free_place, with_slot as with-bit, without_slot as without-bit};
+ghost use Rattle.model.specs.Masks.{bit, set_bits, free_place, with_slot as with_bit, without_slot as without_bit};
 
 // How many slots are occupied: the mask's own count of ones.
 pub fn occupied(mask: u64) -> u32
@@ -31,7 +31,7 @@ pub fn free_slot(mask: u64, below: u32) -> u8
 // The mask with one more slot occupied.
 pub fn with_slot(mask: u64, slot: u8) -> u64
     requires { slot < 64 }
-    ensures { result ≡ with-bit mask slot }
+    ensures { result ≡ with_bit mask slot }
 {
     mask | 1 << slot
 }
@@ -45,7 +45,7 @@ pub fn is_occupied(mask: u64, slot: u8) -> bool
 
 // The mask with a slot free.
 pub fn without_slot(mask: u64, slot: u8) -> u64
-    ensures { result ≡ without-bit mask slot }
+    ensures { result ≡ without_bit mask slot }
 {
     if is_occupied(mask, slot) {
         mask - (1 << slot)

@@ -4,10 +4,10 @@ ghost use Rattle.std.specs.Borrow.{sem, follows_if};
 ghost use Rattle.std.specs.Vec.{with_item};
 ghost use Rattle.std.specs.Option.{ghost_name_of as name_of};
 ghost use Rattle.std.specs.contracts.option.Option.{the_row as option};
-ghost use Rattle.model.specs.contracts.Row.{the_row as row-row};
-ghost use Rattle.tables.specs.contracts.rows.Rows.{the_row as table-row};
+ghost use Rattle.model.specs.contracts.Row.{the_row as row_row};
+ghost use Rattle.tables.specs.contracts.rows.Rows.{the_row as table_row};
 ghost use Rattle.model.specs.Geometry.{desktop};
-ghost use Rattle.model.specs.Calls.{tally, serving as best-serving, serves as row-serves, better as better-of};
+ghost use Rattle.model.specs.Calls.{tally, serving as best_serving, serves as row_serves, better as better_of};
 ghost use Rattle.model.specs.Mesh.{of_class, mask_of, masks_of, listed};
 ghost use Rattle.tables.specs.Views.{rows_of};
 
@@ -44,7 +44,7 @@ impl Rows {
 
     // Lends the place of one frame's row, to be changed there.
     pub fn lend(&mut self, frame: u32) -> Option<&mut Option<Row>>
-        ensures* writes_back { sem 𝓛 (follows_if table-row (option row-row) self.entry.ghost_name (name_of result) (λ w. record { table = with_item self.old.table frame w }) self.old) }
+        ensures* writes_back { sem 𝓛 (follows_if table_row (option row_row) self.entry.ghost_name (name_of result) (λ w. record { table = with_item self.old.table frame w }) self.old) }
         ensures facts { (is_some result ≡ nat_lt frame (vec_len self.old.table)) × IfSome result (λ x. x.now ≡ slice_index_or (rows_of self.old) frame x.now) }
     {
         self.table.get_mut(frame as usize)
@@ -62,8 +62,8 @@ impl Rows {
     // The frame that serves a class, with its row: of the frames of the class with a free slot, the one with most
     // occupied slots, and of equals the one with the lowest number.
     pub fn serving(&self, class: u8) -> Option<(u32, Row)>
-        ensures best { result ≡ best-serving desktop class (rows_of self.now) }
-        ensures serves { (f : ℕ) (row : Row) → result ≡ Some (f, row) → row-serves desktop class row ≡ true }
+        ensures best { result ≡ best_serving desktop class (rows_of self.now) }
+        ensures serves { (f : ℕ) (row : Row) → result ≡ Some (f, row) → row_serves desktop class row ≡ true }
     {
         let mut best: Option<(u32, Row)> = None;
         for frame in 0..64u32 {
@@ -114,14 +114,14 @@ impl Rows {
 
 // Whether a row is of the class and has a free slot.
 fn serves(class: u8, row: Row) -> bool
-    ensures { result ≡ row-serves desktop class row }
+    ensures { result ≡ row_serves desktop class row }
 {
     row.class == class && occupied(row.mask) < slots(class)
 }
 
 // The better of the frame held so far and another one.
 fn better(class: u8, frame: u32, row: Option<Row>, held: Option<(u32, Row)>) -> Option<(u32, Row)>
-    ensures { result ≡ better-of desktop class frame row held }
+    ensures { result ≡ better_of desktop class frame row held }
 {
     let Some(other) = row else {
         return held;

@@ -6,4 +6,4 @@ pub returns : goal.returns
 returns g c =
     c.write.ensures
     ∙ ap (λ (bytes : List ℕ). bank.write c.args.frame c.args.offset bytes (g.B.Bank.model c.args.bank.now))
-    (c.zero-bytes-zeros.ensures.front c.args.size c.requires)
+    (c.zero_bytes-zeros.ensures.front c.args.size c.requires)

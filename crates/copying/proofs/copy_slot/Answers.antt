@@ -5,19 +5,19 @@ use Rattle.bank.specs.Model as bank
 use Rattle.model.specs.Mesh.{cells_read}
 use Rattle.copying.proofs.copy_slot.Goals as goal
 
-pub copy-through-requires : goal.copy-through-requires
-copy-through-requires g c =
+pub copy_through-requires : goal.copy_through-requires
+copy_through-requires g c =
     let n = c.args.size in
-    let bytes : length (take (n - 0) c.zero-bytes-bytes.result) ≡ n =
-    ap length (c.zero-bytes-bytes.ensures.front n c.requires) ∙ length-replicate n 0 in
+    let bytes : length (take (n - 0) c.zero_bytes-bytes.result) ≡ n =
+    ap length (c.zero_bytes-bytes.ensures.front n c.requires) ∙ length-replicate n 0 in
     record {
-      source = ap length (c.empty-cells-source.ensures.front n c.requires) ∙ length-replicate n Empty ∙ sym bytes;
-      destination = c.empty-cells-destination.ensures.front n c.requires ∙ ap (λ k. replicate k Empty) (sym bytes);
+      source = ap length (c.empty_cells-source.ensures.front n c.requires) ∙ length-replicate n Empty ∙ sym bytes;
+      destination = c.empty_cells-destination.ensures.front n c.requires ∙ ap (λ k. replicate k Empty) (sym bytes);
     }
 
 pub returns : goal.returns
 returns g c =
     let m = g.B.Bank.model c.args.bank.now in
-    c.copy-through.ensures
+    c.copy_through.ensures
     ∙ ap (λ (bytes : List ℕ). cells_read c.args.to c.args.offset (bank.read c.args.from c.args.offset bytes m) m)
-    (c.zero-bytes-bytes.ensures.front c.args.size c.requires)
+    (c.zero_bytes-bytes.ensures.front c.args.size c.requires)

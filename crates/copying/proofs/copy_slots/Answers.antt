@@ -5,7 +5,7 @@ use Rattle.model.specs.Mesh.{copies}
 use Rattle.model.proofs.Masks.{length-set_places}
 use Rattle.copying.proofs.Slots.{left, all_left, copies-next, copies_stopped, copies_passed, bytes_next, bytes_passed, none_left}
 use Rattle.copying.proofs.copy_slots.Goals as goal
-use Rattle.copying.proofs.copy_slots.Goals.{then-is-occupied+in-default, else-is-occupied}
+use Rattle.copying.proofs.copy_slots.Goals.{then-is_occupied+in_default, else-is_occupied}
 
 pub loop-slot-init : goal.loop-slot-init
 loop-slot-init g c =
@@ -24,21 +24,21 @@ loop-slot-preserved g c =
     let model = g.B.Bank.model in
     let rest : ℕ → List ℕ = left a.size a.from a.to a.mask in
     let below = c.loop-slot-test.true in
-    elim c.if-is-occupied.branch [
-      | then-is-occupied+in-default w ↦ (
+    elim c.if-is_occupied.branch [
+      | then-is_occupied+in_default w ↦ (
         ap (λ b. copies a.size a.from a.to (rest (slot + 1)) (model b)) w.bank-is
-            ∙ copies-next a.size a.from a.to a.mask slot (model c.loop-slot.bank) (model w.copy-slot.new.bank) below (sym w.if-is-occupied.ensures) w.in-default.ensures
+            ∙ copies-next a.size a.from a.to a.mask slot (model c.loop-slot.bank) (model w.copy_slot.new.bank) below (sym w.if-is_occupied.ensures) w.in_default.ensures
             ∙ inv.0,
         ap (λ k. k + a.size * length (rest (slot + 1))) w.copied-is
-            ∙ bytes_next a.size a.from a.to a.mask slot c.loop-slot.copied _ below (sym w.if-is-occupied.ensures) inv.1,
+            ∙ bytes_next a.size a.from a.to a.mask slot c.loop-slot.copied _ below (sym w.if-is_occupied.ensures) inv.1,
         omega (arith, w.copied-is, inv.2, c.requires),
       )
-      | else-is-occupied w ↦ (
+      | else-is_occupied w ↦ (
         ap (λ b. copies a.size a.from a.to (rest (slot + 1)) (model b)) w.bank-is
-            ∙ copies_passed a.size a.from a.to a.mask slot (model c.loop-slot.bank) below (sym w.if-is-occupied.ensures)
+            ∙ copies_passed a.size a.from a.to a.mask slot (model c.loop-slot.bank) below (sym w.if-is_occupied.ensures)
             ∙ inv.0,
         ap (λ k. k + a.size * length (rest (slot + 1))) w.copied-is
-            ∙ bytes_passed a.size a.from a.to a.mask slot c.loop-slot.copied _ below (sym w.if-is-occupied.ensures) inv.1,
+            ∙ bytes_passed a.size a.from a.to a.mask slot c.loop-slot.copied _ below (sym w.if-is_occupied.ensures) inv.1,
         omega (arith, w.copied-is, inv.2),
       )
     ]
@@ -61,7 +61,7 @@ returns-in-Err g c =
     let a = c.args in
     let model = g.B.Bank.model in
     record {
-      step = copies_stopped a.size a.from a.to a.mask c.loop-slot.slot (model c.loop-slot.bank) (model c.copy-slot.new.bank) c.in-Err.refusal c.loop-slot-test.true (sym c.if-is-occupied.ensures) c.in-Err.ensures ∙ c.loop-slot.invariant.0;
+      step = copies_stopped a.size a.from a.to a.mask c.loop-slot.slot (model c.loop-slot.bank) (model c.copy_slot.new.bank) c.in-Err.refusal c.loop-slot-test.true (sym c.if-is_occupied.ensures) c.in-Err.ensures ∙ c.loop-slot.invariant.0;
       bytes = λ n is. let z : ◌≡◌ {A = ℕ} 0 1 = cc in omega arith;
       few = λ n is. let z : ◌≡◌ {A = ℕ} 0 1 = cc in omega arith;
     }

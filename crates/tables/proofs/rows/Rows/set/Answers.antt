@@ -6,5 +6,5 @@ use Rattle.tables.proofs.rows.Rows.set.Goals as goal
 
 pub returns-in_default : goal.returns-in_default
 returns-in_default c =
-    let past = ltb-false c.args.frame c.args.self.now.table.len (sym c.in_default.ensures.0) in
+    let past = ltb-false c.args.frame c.args.self.now.table.len (sym c.in_default.ensures.facts.0) in
     sym (set_past (rows_of c.args.self.now) c.args.frame c.args.row (omega (arith, past, c.args.self.now.table.ok.0)))
