@@ -10,13 +10,13 @@ use Rattle.calls.proofs.fetch_bytes.Goals as goal
 pub returns-in-Ok : goal.returns-in-Ok
 returns-in-Ok g c =
     let s = state_of g.B.Bank.model c.args.pool.now in
-    let buffer = c.in-ok-buffer.buffer in
+    let buffer = c.in_ok-buffer.buffer in
     let asked = λ (bytes : List ℕ). filled (calls.fetch desktop c.args.address bytes s) in
-    let long : length c.fetch.new.buffer ≡ buffer.len = omega (arith, c.fetch.auto.buffer, c.as-mut-slice.ensures.len) in
+    let long : length c.fetch.new.buffer ≡ buffer.len = omega (arith, c.fetch.auto.buffer, c.as_mut_slice.ensures.len) in
     let ok : List ℕ → Result (List ℕ) Refusal = λ bytes. Ok bytes in
     record {
       bytes = ap ok (with_items_is buffer c.fetch.new.buffer long)
           ∙ ap filled c.in-Ok.ensures.step
-          ∙ ap asked (c.as-mut-slice.ensures.value ∙ c.in-ok-buffer.ensures);
+          ∙ ap asked (c.as_mut_slice.ensures.value ∙ c.in_ok-buffer.ensures);
       same = c.fetch.ensures.same;
     }

@@ -23,7 +23,7 @@ loop-call-preserved g c =
     let below = c.loop-call-test.true in
     let is = c.in-Ok.ensures.done ∙ ap (λ (k : Call). runs.step desktop meaning (call_of k) s) c.call-item.is in
     let pushed : vec_items c.push.new.self ≡ vec_items c.loop-call.answers ++ c.in-Ok.answer ∷ [] =
-    c.push.ensures.items ∙ cond-true _ _ _ (c.is-err.ensures.negation ∙ ap not c.if-is-err.false) in (
+    c.push.ensures.items ∙ cond-true _ _ _ (c.is_err.ensures.negation ∙ ap not c.if-is_err.false) in (
       ap (λ given. behind meaning given (answered_by meaning (map call_of (drop (i + 1) calls)) t)) (ap (map answer_of) pushed ∙ map_push answer_of (vec_items c.loop-call.answers) c.in-Ok.answer)
           ∙ performed meaning call_of calls i item below s t a is (map answer_of (vec_items c.loop-call.answers)) _ c.loop-call.invariant.0,
       ran_front meaning call_of calls i item below s t a is (view c.args.pool.now) c.loop-call.invariant.1,
@@ -40,8 +40,8 @@ returns g c =
       known = subst (λ (ks : List Call). runs.KnownLabels desktop (map call_of ks)) (take_all c.loop-call.call-index c.args.calls.now c.loop-call-test.false) c.loop-call.invariant.2;
     }
 
-pub returns-then-is-err : goal.returns-then-is-err
-returns-then-is-err g c =
+pub returns-then-is_err : goal.returns-then-is_err
+returns-then-is_err g c =
     let meaning = meaning_of g.P.Pairing.pairs g.P.Pairing.next in
     let view = state_of g.B.Bank.model in
     let s = view c.loop-call.pool in

@@ -12,10 +12,10 @@ pub returns : goal.returns
 returns g c =
     let meaning = meaning_of g.P.Pairing.pairs g.P.Pairing.next in
     let lawful : Lawful meaning = λ k masks. fair-from masks (g.P.Pairing.pairs k masks) (g.met.P.Pairing.lawful k masks) in
-    let opened = c.in-ok-pool.ensures in
-    let done = c.in-ok-answers.ensures in
+    let opened = c.in_ok-pool.ensures in
+    let done = c.in_ok-answers.ensures in
     let setup = c.args.setup in
-    let whole : Performed meaning (g.B.Bank.model setup.bank) setup.pairing setup.seed (map call_of c.args.calls.now) (map answer_of (vec_items c.in-ok-answers.answers)) (state_of g.B.Bank.model c.perform-all.new.pool) =
+    let whole : Performed meaning (g.B.Bank.model setup.bank) setup.pairing setup.seed (map call_of c.args.calls.now) (map answer_of (vec_items c.in_ok-answers.answers)) (state_of g.B.Bank.model c.perform_all.new.pool) =
     record {
       run = done.done ∙ ap (answered_by meaning (map call_of c.args.calls.now)) opened.opened;
       few = opened.few;

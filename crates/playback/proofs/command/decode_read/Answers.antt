@@ -8,4 +8,4 @@ use Rattle.playback.proofs.command.decode_read.Goals as goal
 pub returns-in-len3-up : goal.returns-in-len3-up
 returns-in-len3-up c =
     let b = c.args.bytes.now in
-    (whole_is b (read_command b) _ (ap (Read (get_or b 0 0)) (sym c.from-be-bytes.ensures)) (let e : 3 ≤ length b = search rules in e), take_rest b 3)
+    (whole_is b (read_command b) _ (ap (Read (get_or b 0 0)) (sym c.from_be_bytes.ensures)) (let e : 3 ≤ length b = search rules in e), take_rest b 3)

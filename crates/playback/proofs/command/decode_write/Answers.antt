@@ -10,8 +10,8 @@ returns-in-len6-up c =
     let b = c.args.bytes.now in
     let offset = two_bytes (get_or b 1 0) (get_or b 2 0) in (
       whole_is b (write_command b) _
-          (ap (λ n. Write (get_or b 0 0) offset n (get_or b 5 0)) (sym c.from-be-bytes-count.ensures)
-          ∙ ap (λ o. Write (get_or b 0 0) o c.from-be-bytes-count.result (get_or b 5 0)) (sym c.from-be-bytes-offset.ensures))
+          (ap (λ n. Write (get_or b 0 0) offset n (get_or b 5 0)) (sym c.from_be_bytes-count.ensures)
+          ∙ ap (λ o. Write (get_or b 0 0) o c.from_be_bytes-count.result (get_or b 5 0)) (sym c.from_be_bytes-offset.ensures))
           (let e : 6 ≤ length b = search rules in e),
       take_rest b 6,
     )

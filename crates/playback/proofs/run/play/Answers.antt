@@ -19,9 +19,9 @@ loop-rest-preserved g c =
     let inv = c.loop-rest.invariant in (
       omega (arith, inv.0, shorter c.loop-rest.rest.now c.in-Ok.decoded.rest.now c.in-Ok.decoded.command decoded.0 decoded.1),
       performed desktop (meaning_of g.P.Pairing.pairs g.P.Pairing.next) c.args.input.now c.loop-rest.rest.now inv.0 c.in-Ok.decoded.rest.now
-          (vec_items c.loop-rest.lines) (vec_items c.push.new.self) c.in-ok-perform-command.field-0 c.in-Ok.decoded.command
-          (state_of model c.loop-rest.pool) (state_of model c.perform-command.new.pool) _
-          decoded.0 decoded.1 c.in-ok-perform-command.ensures c.in-ok-push.ensures.items inv.1,
+          (vec_items c.loop-rest.lines) (vec_items c.push.new.self) c.in_ok-perform_command-in-Ok.field-0 c.in-Ok.decoded.command
+          (state_of model c.loop-rest.pool) (state_of model c.perform_command.new.pool) _
+          decoded.0 decoded.1 c.in_ok-perform_command-in-Ok.ensures c.in_ok-push-in-Ok.ensures.items inv.1,
     )
 
 pub returns-in-Err : goal.returns-in-Err
@@ -30,9 +30,9 @@ returns-in-Err g c =
     let inv = c.loop-rest.invariant in
     let some : 0 < length c.loop-rest.rest.now = omega (arith, eqb-false (length c.loop-rest.rest.now) 0 (sym c.loop-rest-test.ensures)) in
     ended desktop (meaning_of g.P.Pairing.pairs g.P.Pairing.next) c.args.input.now c.loop-rest.rest.now inv.0
-    (vec_items c.loop-rest.lines) (vec_items c.push-in-Err.new.self) c.tell-fault.result c.in-Err.refusal
-    (state_of model c.loop-rest.pool) (state_of model c.tell-fault.new.pool) _
-    some c.in-Err.ensures c.tell-fault.ensures.line c.tell-fault.ensures.same c.in-ok-push-2.ensures.items inv.1
+    (vec_items c.loop-rest.lines) (vec_items c.push-in-Err.new.self) c.tell_fault.result c.in-Err.refusal
+    (state_of model c.loop-rest.pool) (state_of model c.tell_fault.new.pool) _
+    some c.in-Err.ensures c.tell_fault.ensures.line c.tell_fault.ensures.same c.in_ok-push-in-Err.ensures.items inv.1
 
 pub returns : goal.returns
 returns g c =

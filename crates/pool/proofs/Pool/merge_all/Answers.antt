@@ -13,9 +13,9 @@ unfolding none
 loop-pair-preserved g c =
     let view = state_of g.B.Bank.model in
     let inv = c.loop-pair.invariant in (
-      merged-next desktop c.args.frames.now c.args.pairs.now c.loop-pair.pair-index none c.frame-at.result c.frame-at-in-loop-pair.result
+      merged-next desktop c.args.frames.now c.args.pairs.now c.loop-pair.pair-index none c.frame_at.result c.frame_at-in-loop-pair.result
           c.loop-pair.done c.in-Ok.more (view c.loop-pair.self) (view c.merge.new.self) c.loop-pair-test.true
-          c.frame-at.ensures c.frame-at-in-loop-pair.ensures c.in-Ok.ensures.step
+          c.frame_at.ensures c.frame_at-in-loop-pair.ensures c.in-Ok.ensures.step
           ∙ inv.0,
       omega (arith, inv.1, c.in-Ok.ensures.few.0),
       omega (arith, inv.2, c.in-Ok.ensures.few.1),
@@ -25,9 +25,9 @@ pub returns-in-Err : goal.returns-in-Err
 unfolding none
 returns-in-Err g c =
     let view = state_of g.B.Bank.model in
-    merged_stopped desktop c.args.frames.now c.args.pairs.now c.loop-pair.pair-index none c.frame-at.result c.frame-at-in-loop-pair.result
+    merged_stopped desktop c.args.frames.now c.args.pairs.now c.loop-pair.pair-index none c.frame_at.result c.frame_at-in-loop-pair.result
     c.loop-pair.done c.in-Err.refusal (view c.loop-pair.self) (view c.merge.new.self) c.loop-pair-test.true
-    c.frame-at.ensures c.frame-at-in-loop-pair.ensures c.in-Err.ensures.step
+    c.frame_at.ensures c.frame_at-in-loop-pair.ensures c.in-Err.ensures.step
     ∙ c.loop-pair.invariant.0
 
 pub returns : goal.returns

@@ -9,7 +9,7 @@ use Rattle.verdicts.proofs.addresses.first_addresses.Goals as goal
 
 pub loop-i-init : goal.loop-i-init
 loop-i-init c =
-    ap (addresses_after (told (map call_of c.args.calls.now) (map answer_of c.args.answers.now))) c.no-addresses-firsts.ensures
+    ap (addresses_after (told (map call_of c.args.calls.now) (map answer_of c.args.answers.now))) c.no_addresses-firsts.ensures
 
 pub loop-i-preserved : goal.loop-i-preserved
 loop-i-preserved c =

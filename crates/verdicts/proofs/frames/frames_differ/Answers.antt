@@ -20,7 +20,7 @@ loop-frame-preserved g c =
       c.same_frame.ensures.two ∙ inv.1,
       agrees_here one two f inv.2 c.same_frame.result
           (decides_of (held (g.B.Bank.model c.loop-frame.one.bank) f) (held (g.C.Bank.model c.loop-frame.two.bank) f) (one f) (two f) c.same_frame.result (holding f inv.0) (holding f inv.1) c.same_frame.ensures.same)
-          c.if-not-same-frame.false,
+          c.if-not-same_frame.false,
     )
 
 pub returns : goal.returns
@@ -32,8 +32,8 @@ returns g c =
       two = inv.1;
     }
 
-pub returns-then-not-same-frame : goal.returns-then-not-same-frame
-returns-then-not-same-frame g c =
+pub returns-then-not-same_frame : goal.returns-then-not-same_frame
+returns-then-not-same_frame g c =
     let inv = c.loop-frame.invariant in
     let f = c.loop-frame.frame in
     let one : ℕ → List ℕ = held (g.B.Bank.model c.args.one.now.bank) in
@@ -41,7 +41,7 @@ returns-then-not-same-frame g c =
     record {
       apart = differs_here one two f inv.2 64 c.same_frame.result c.loop-frame-test.true
           (decides_of (held (g.B.Bank.model c.loop-frame.one.bank) f) (held (g.C.Bank.model c.loop-frame.two.bank) f) (one f) (two f) c.same_frame.result (holding f inv.0) (holding f inv.1) c.same_frame.ensures.same)
-          c.if-not-same-frame.true;
+          c.if-not-same_frame.true;
       one = c.same_frame.ensures.one ∙ inv.0;
       two = c.same_frame.ensures.two ∙ inv.1;
     }

@@ -5,8 +5,8 @@ use Rattle.std.proofs.lemmas.Bool.Decides.{Decides-eqb}
 
 pub returns : goal.returns
 returns g c =
-    let here = c.frame-bytes-here in
-    let there = c.frame-bytes-there in
+    let here = c.frame_bytes-here in
+    let there = c.frame_bytes-there in
     record {
       same = decides_of here.result there.result _ _ c.eq.result here.ensures.bytes there.ensures.bytes
           (slice_eq-Decides Decides-eqb here.result there.result c.eq.result c.eq.ensures);

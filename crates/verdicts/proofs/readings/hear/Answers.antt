@@ -13,15 +13,15 @@ returns g c =
     let meaning = meaning_of g.P.Pairing.pairs g.P.Pairing.next in
     let answers = next_of desktop meaning (state_of g.B.Bank.model c.args.pool.now) in
     let l = c.args.label in
-    let n = c.in-ok-length.length in
-    let one = c.read-start.ensures.same in
+    let n = c.in_ok-length.length in
+    let one = c.read_start.ensures.same in
     let two = c.longest_read.ensures.same ∙ one in
-    let three = c.read-start-2.ensures.same ∙ two in
+    let three = c.read_start-2.ensures.same ∙ two in
     record {
-      heard = heard-is answers l c.args.first 512 n c.in-ok-accepted.accepted (bytes_of c.in-ok-read.read) (bytes_of c.in-ok-fetched.fetched)
-          c.in-ok-accepted.ensures.bytes (sym c.if-is-none.ensures)
-          (c.in-ok-length.ensures.length ∙ ap (λ (s : State g.row.P.Denot). longest_read (next_of desktop meaning s) 512 l) one)
-          (c.in-ok-read.ensures.bytes ∙ ap (λ (s : State g.row.P.Denot). by_read (next_of desktop meaning s) l n) two)
-          (c.in-ok-fetched.ensures.bytes ∙ ap (λ (s : State g.row.P.Denot). by_fetch (next_of desktop meaning s) c.args.first n) three);
-      same = c.fetch-first.ensures.same ∙ three;
+      heard = heard-is answers l c.args.first 512 n c.in_ok-accepted.accepted (bytes_of c.in_ok-read.read) (bytes_of c.in_ok-fetched.fetched)
+          c.in_ok-accepted.ensures.bytes (sym c.if-is_none.ensures)
+          (c.in_ok-length.ensures.length ∙ ap (λ (s : State g.row.P.Denot). longest_read (next_of desktop meaning s) 512 l) one)
+          (c.in_ok-read.ensures.bytes ∙ ap (λ (s : State g.row.P.Denot). by_read (next_of desktop meaning s) l n) two)
+          (c.in_ok-fetched.ensures.bytes ∙ ap (λ (s : State g.row.P.Denot). by_fetch (next_of desktop meaning s) c.args.first n) three);
+      same = c.fetch_first.ensures.same ∙ three;
     }

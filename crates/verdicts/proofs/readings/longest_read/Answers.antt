@@ -16,7 +16,7 @@ loop-count-preserved g c =
     let n = c.loop-count.count - 1 in
     let inv = c.loop-count.invariant in
     let reads : bytes_of c.in-Ok.read ≡ by_read answers l n = c.in-Ok.ensures.bytes ∙ ap (λ (s : State g.row.P.Denot). by_read (next_of desktop meaning s) l n) inv.0 in
-    (c.read-start.ensures.same ∙ inv.0, passed answers l 512 n inv.1 (omega (arith, c.loop-count-test.true)) c.in-Ok.read reads c.if-is-some.ensures)
+    (c.read_start.ensures.same ∙ inv.0, passed answers l 512 n inv.1 (omega (arith, c.loop-count-test.true)) c.in-Ok.read reads c.if-is_some.ensures)
 
 pub returns : goal.returns
 returns g c =
@@ -26,8 +26,8 @@ returns g c =
       same = c.loop-count.invariant.0;
     }
 
-pub returns-then-is-some : goal.returns-then-is-some
-returns-then-is-some g c =
+pub returns-then-is_some : goal.returns-then-is_some
+returns-then-is_some g c =
     let meaning = meaning_of g.P.Pairing.pairs g.P.Pairing.next in
     let answers = next_of desktop meaning (state_of g.B.Bank.model c.args.pool.now) in
     let l = c.args.label in
@@ -35,6 +35,6 @@ returns-then-is-some g c =
     let inv = c.loop-count.invariant in
     let reads : bytes_of c.in-Ok.read ≡ by_read answers l n = c.in-Ok.ensures.bytes ∙ ap (λ (s : State g.row.P.Denot). by_read (next_of desktop meaning s) l n) inv.0 in
     record {
-      length = found answers l 512 n inv.1 (omega (arith, c.loop-count-test.true)) c.in-Ok.read reads c.if-is-some.ensures;
-      same = c.read-start.ensures.same ∙ inv.0;
+      length = found answers l 512 n inv.1 (omega (arith, c.loop-count-test.true)) c.in-Ok.read reads c.if-is_some.ensures;
+      same = c.read_start.ensures.same ∙ inv.0;
     }

@@ -23,11 +23,11 @@ module _ {C D : Type 0} (m : Meaning C) (o : Meaning D) (a b : Addresses) (s : S
 pub loop-label-preserved : goal.loop-label-preserved
 loop-label-preserved g c =
     let inv = c.loop-label.invariant in (
-      c.same-reading.ensures.one ∙ inv.0,
-      c.same-reading.ensures.two ∙ inv.1,
-      alike (meaning_of g.P.Pairing.pairs g.P.Pairing.next) (meaning_of g.Q.Pairing.pairs g.Q.Pairing.next) (addresses_in c.args.first-one.now) (addresses_in c.args.first-two.now)
+      c.same_reading.ensures.one ∙ inv.0,
+      c.same_reading.ensures.two ∙ inv.1,
+      alike (meaning_of g.P.Pairing.pairs g.P.Pairing.next) (meaning_of g.Q.Pairing.pairs g.Q.Pairing.next) (addresses_in c.args.first_one.now) (addresses_in c.args.first_two.now)
           (state_of g.B.Bank.model c.args.one.now) (state_of g.C.Bank.model c.args.two.now) c.loop-label.label inv.2
-          (state_of g.B.Bank.model c.loop-label.one) (state_of g.C.Bank.model c.loop-label.two) inv.0 inv.1 c.in-ok-alike.alike c.in-ok-alike.ensures.same c.if-not-alike.false,
+          (state_of g.B.Bank.model c.loop-label.one) (state_of g.C.Bank.model c.loop-label.two) inv.0 inv.1 c.in_ok-alike.alike c.in_ok-alike.ensures.same c.if-not-alike.false,
     )
 
 pub returns : goal.returns
@@ -38,21 +38,21 @@ returns-else-not-alike g c =
     let inv = c.loop-label.invariant in
     record {
       apart = λ k inside.
-          alike (meaning_of g.P.Pairing.pairs g.P.Pairing.next) (meaning_of g.Q.Pairing.pairs g.Q.Pairing.next) (addresses_in c.args.first-one.now) (addresses_in c.args.first-two.now)
+          alike (meaning_of g.P.Pairing.pairs g.P.Pairing.next) (meaning_of g.Q.Pairing.pairs g.Q.Pairing.next) (addresses_in c.args.first_one.now) (addresses_in c.args.first_two.now)
           (state_of g.B.Bank.model c.args.one.now) (state_of g.C.Bank.model c.args.two.now) c.loop-label.label inv.2
-          (state_of g.B.Bank.model c.loop-label.one) (state_of g.C.Bank.model c.loop-label.two) inv.0 inv.1 c.in-ok-alike.alike c.in-ok-alike.ensures.same c.if-not-alike.false
+          (state_of g.B.Bank.model c.loop-label.one) (state_of g.C.Bank.model c.loop-label.two) inv.0 inv.1 c.in_ok-alike.alike c.in_ok-alike.ensures.same c.if-not-alike.false
           k (omega arith);
-      one = c.same-reading.ensures.one ∙ inv.0;
-      two = c.same-reading.ensures.two ∙ inv.1;
+      one = c.same_reading.ensures.one ∙ inv.0;
+      two = c.same_reading.ensures.two ∙ inv.1;
     }
 
 pub returns-then-not-alike : goal.returns-then-not-alike
 returns-then-not-alike g c =
     let inv = c.loop-label.invariant in
     record {
-      apart = unlike (meaning_of g.P.Pairing.pairs g.P.Pairing.next) (meaning_of g.Q.Pairing.pairs g.Q.Pairing.next) (addresses_in c.args.first-one.now) (addresses_in c.args.first-two.now)
+      apart = unlike (meaning_of g.P.Pairing.pairs g.P.Pairing.next) (meaning_of g.Q.Pairing.pairs g.Q.Pairing.next) (addresses_in c.args.first_one.now) (addresses_in c.args.first_two.now)
           (state_of g.B.Bank.model c.args.one.now) (state_of g.C.Bank.model c.args.two.now) c.loop-label.label inv.2
-          (state_of g.B.Bank.model c.loop-label.one) (state_of g.C.Bank.model c.loop-label.two) inv.0 inv.1 c.in-ok-alike.alike c.in-ok-alike.ensures.same (omega (arith, c.loop-label-test.true)) c.if-not-alike.true;
-      one = c.same-reading.ensures.one ∙ inv.0;
-      two = c.same-reading.ensures.two ∙ inv.1;
+          (state_of g.B.Bank.model c.loop-label.one) (state_of g.C.Bank.model c.loop-label.two) inv.0 inv.1 c.in_ok-alike.alike c.in_ok-alike.ensures.same (omega (arith, c.loop-label-test.true)) c.if-not-alike.true;
+      one = c.same_reading.ensures.one ∙ inv.0;
+      two = c.same_reading.ensures.two ∙ inv.1;
     }

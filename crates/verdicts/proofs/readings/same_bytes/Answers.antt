@@ -10,6 +10,6 @@ returns-in-Some-Some c =
     let here = vec_items c.in-Some-Some.here in
     let there = vec_items c.in-Some-Some.there in
     let r = c.eq.result in
-    let decides = slice_eq-Decides Decides-eqb c.as-slice.result.now c.as-slice-in-Some-Some.result.now r c.eq.ensures in
-    let items = decides_of c.as-slice.result.now c.as-slice-in-Some-Some.result.now here there r c.as-slice.ensures.value c.as-slice-in-Some-Some.ensures.value decides in
+    let decides = slice_eq-Decides Decides-eqb c.as_slice.result.now c.as_slice-in-Some-Some.result.now r c.eq.ensures in
+    let items = decides_of c.as_slice.result.now c.as_slice-in-Some-Some.result.now here there r c.as_slice.ensures.value c.as_slice-in-Some-Some.ensures.value decides in
     decides_of (Some here) (Some there) (bytes_of c.args.one.now) (bytes_of c.args.two.now) r (sym (ap bytes_of c.in-Some-Some.is-0)) (sym (ap bytes_of c.in-Some-Some.is-1)) (decides_some here there r items)
