@@ -18,9 +18,9 @@ loop-rest-preserved c =
     let rest = c.loop-rest.rest.now in
     let some : 0 < length rest = omega (arith, eqb-false (length rest) 0 (sym c.loop-rest-test.ensures)) in
     gathered (map call_of (vec_items c.loop-rest.calls)) (calls_in c.args.input.now) rest c.loop-rest.invariant
-    c.in-Ok.decoded.command c.in-Ok.decoded.rest.now (call_of c.in-ok-call.field-0) (map call_of (vec_items c.push.new.self))
-    some told.0 told.1 c.in-ok-call.ensures
-    (ap (map call_of) c.in-ok-push.ensures.items ∙ map_push call_of (vec_items c.loop-rest.calls) c.in-ok-call.field-0)
+    c.in-Ok.decoded.command c.in-Ok.decoded.rest.now (call_of c.in_ok-call-in-Ok.field-0) (map call_of (vec_items c.push.new.self))
+    some told.0 told.1 c.in_ok-call-in-Ok.ensures
+    (ap (map call_of) c.in_ok-push-in-Ok.ensures.items ∙ map_push call_of (vec_items c.loop-rest.calls) c.in_ok-call-in-Ok.field-0)
 
 pub returns-in-Err : goal.returns-in-Err
 returns-in-Err c =

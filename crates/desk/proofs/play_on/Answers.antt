@@ -18,11 +18,11 @@ pub returns : goal.returns
 returns g c =
     let meaning = meaning_of g.P.Pairing.pairs g.P.Pairing.next in
     let lawful : runs.Lawful meaning = λ k masks. fair-from masks (g.P.Pairing.pairs k masks) (g.met.P.Pairing.lawful k masks) in
-    let began = c.in-ok-pool.ensures in
+    let began = c.in_ok-pool.ensures in
     let setup = c.args.setup in
     let input = c.args.input.now in
     let start = opened desktop (g.B.Bank.model setup.bank) setup.pairing setup.seed in
-    let told = c.in-ok-lines.ensures ∙ ap (played desktop meaning input) began.opened in
+    let told = c.in_ok-lines.ensures ∙ ap (played desktop meaning input) began.opened in
     let last = ap (λ (x : List Line × State g.row.P.Denot). x.1) told ∙ plays-end desktop meaning 0 0 input start in
     let pair : State g.row.P.Denot → List runs.Answer × State g.row.P.Denot = λ s. ((answered_by meaning (calls_in input) start).0, s) in
     let whole : Performed meaning (g.B.Bank.model setup.bank) setup.pairing setup.seed (calls_in input) (answered_by meaning (calls_in input) start).0 (state_of g.B.Bank.model c.play.new.pool) =

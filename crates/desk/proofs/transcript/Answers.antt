@@ -15,8 +15,8 @@ loop-line-preserved c =
     let header : List ℕ = codes "at cmd answer frames\n" in
     let lines = c.args.lines.now in
     let i = c.loop-line.line-index in
-    c.in-ok-push-str.ensures.bytes
-    ∙ ap (λ bytes. string_bytes c.loop-line.text ++ bytes) (c.as-str.ensures.value ∙ c.in-ok-told.ensures)
+    c.in_ok-push_str.ensures.bytes
+    ∙ ap (λ bytes. string_bytes c.loop-line.text ++ bytes) (c.as_str.ensures.value ∙ c.in_ok-told.ensures)
     ∙ ap (λ bytes. bytes ++ ended (get_or lines i none)) c.loop-line.invariant
     ∙ flat_map_more ended header (take i lines) (get_or lines i none)
     ∙ ap (λ ls. header ++ flat_map ended ls) (sym (take_more lines i none c.loop-line-test.true))
