@@ -1,16 +1,16 @@
 -- The proofs of the laws of banks.
-use Rattle.std.proofs.Common.{◌≡◌, ℕ, zero, suc, ◌+◌, ◌<◌, ◌≤◌, Bool, true, false, cond, not, ◌&&◌, leb, List, [], ◌∷◌, map, length, take, replicate, Ok, Err, Result, sym, refl, ap, ◌∙◌, subst, ⊎_elim, arith}
+use Rattle.std.proofs.Common.{◌≡◌, ℕ, zero, suc, ◌+◌, ◌<◌, ◌≤◌, Bool, true, false, cond, leb, List, [], ◌∷◌, map, length, take, replicate, Ok, Err, Result, sym, refl, ap, ◌∙◌, subst, ⊎_elim, arith}
 use mathlib.Core.List.Memᴰ
 use mathlib.Core.List.{Memᴰ}
 use Rattle.std.specs.List.{range_with_len}
 use Rattle.refusal.specs.declared.Refusal.{Refusal}
-use Rattle.refusal.specs.declared.Refusal.TheVariants.{Frames, Edge, NotOut}
-use Rattle.std.proofs.lemmas.Bool.{cases_eq, cases_Bool, both_ways, cond-true, le-leb}
+use Rattle.refusal.specs.declared.Refusal.TheVariants.{Edge, NotOut}
+use Rattle.std.proofs.lemmas.Bool.{cases_eq, both_ways, cond-true, le-leb}
 use Rattle.bank.specs.Tables.{put, peek, poke}
-use Rattle.bank.specs.Model.{BankState, reset, granting, grant, returned, give_back, read, written, write}
+use Rattle.bank.specs.Model.{BankState, granting, grant, returned, read, written}
 use Rattle.bank.specs.Sound.{Proper, Sound}
 use Rattle.bank.proofs.Puts.{put_at, put_other}
-use Rattle.bank.specs.Laws.{ResetSound, Stays, StaysSound, Regrants, GrantsZeros, Keeps, RefusalsKeep}
+use Rattle.bank.specs.Laws.{ResetSound, StaysSound, Regrants, GrantsZeros, RefusalsKeep}
 
 -- each member of a proper list is below its bound
 pub proper-below : (n : ℕ) (fs : List ℕ) (f : ℕ) → Proper n fs → Memᴰ f fs → f < n

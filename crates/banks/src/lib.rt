@@ -1,4 +1,6 @@
 // The banks: flat and lane over a caller's memory, and the quota over any other bank.
+#![tactic(auto)]
+
 mod flat;
 mod frames;
 mod lane;

@@ -1,4 +1,6 @@
 // Banks at work: the same lists of calls on every kind of bank, and where the bytes lie.
+#![tactic(auto)]
+
 ghost use Rattle.std.specs.Prelude.{◌≡◌, length, if◌then◌else◌, Ok, Err, nat_eq};
 ghost use Rattle.refusal.specs.declared.Refusal.TheVariants.{Frames};
 ghost use Rattle.banks.specs.Memory.{whole_frames};

@@ -1,4 +1,6 @@
 // The calls of a pool as values, so that lists of them can be kept, passed and performed.
+#![tactic(auto)]
+
 ghost use Rattle.std.specs.Prelude.{◌≡◌, map, replicate, IfOk, OnErr, OnOk};
 ghost use Rattle.model.specs.Geometry.{desktop};
 ghost use Rattle.model.specs.Calls.{read as read_step, fetch as fetch_step};

@@ -1,4 +1,6 @@
 // Plays two command lists, each on a unit of its own, and says whether the two units sound the same.
+#![tactic(auto)]
+
 use anyhow::anyhow;
 use bank::Bank;
 use banks::FlatBank;

@@ -1,4 +1,6 @@
 // Two units, one gesture: do they sound the same?
+#![tactic(auto)]
+
 ghost use Rattle.std.specs.Prelude.{◌≡◌, map, IfOk};
 ghost use Rattle.bank.specs.Model.{most_frames};
 ghost use Rattle.model.specs.Geometry.{desktop};

@@ -1,4 +1,6 @@
 // What a pool does to the bytes of slots: clearing one, and copying those that a merge moves.
+#![tactic(auto)]
+
 ghost use Rattle.std.specs.Prelude.{◌≡◌, ℕ, ◌-◌, ◌*◌, ◌≤◌, map, length, take, replicate, Ok};
 ghost use Rattle.joining.specs.declared.kinds.Cell.TheVariants.{Empty, Full};
 ghost use Rattle.bank.specs.Model.{read as read_step, write as write_step};

@@ -1,5 +1,5 @@
 -- What playing leaves is what the calls that the bytes ask for leave.
-use Rattle.std.proofs.Common.{◌≡◌, ℕ, zero, suc, ◌+◌, ◌<◌, List, [], ◌∷◌, map, get_or, Ok, Err, Result, sym, refl, ap, ◌∙◌}
+use Rattle.std.proofs.Common.{◌≡◌, ℕ, zero, suc, ◌+◌, ◌<◌, List, [], ◌∷◌, map, get_or, Ok, Err, Result, refl}
 use Rattle.refusal.specs.declared.Refusal.{Refusal}
 use Rattle.model.specs.Geometry.{Geometry, desktop}
 use Rattle.model.specs.State.{State}

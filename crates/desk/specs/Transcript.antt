@@ -1,5 +1,5 @@
 -- How a listing is written: the header, and a line for each command.
-use Rattle.std.specs.Prelude.{ℕ, List, [], ◌∷◌, ◌++◌, codes}
+use Rattle.std.specs.Prelude.{ℕ, List, ◌++◌, codes}
 use Rattle.std.specs.List.{flat_map}
 use Rattle.playback.specs.declared.line.Line.{Line}
 use Rattle.playback.specs.Text.{line_text}

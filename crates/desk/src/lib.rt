@@ -1,4 +1,6 @@
 // The desk: a list of command bytes played on a unit, from its start to its listing.
+#![tactic(auto)]
+
 ghost use Rattle.std.specs.Prelude.{◌≡◌, map, IfOk, string_bytes};
 ghost use Rattle.model.specs.Geometry.{desktop};
 ghost use Rattle.model.specs.State.{opened as opened_pool};

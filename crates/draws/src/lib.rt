@@ -1,4 +1,6 @@
 // Pseudo-random draws: Marsaglia's xorshift32.
+#![tactic(auto)]
+
 ghost use Rattle.std.specs.Prelude.{◌≡◌, ℕ, ◌^◌, ◌<◌, [], ◌∷◌};
 ghost use Rattle.draws.specs.Draws.{next, begun, drawn};
 

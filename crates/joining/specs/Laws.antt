@@ -1,5 +1,5 @@
 -- What a joining keeps. A joining gives the join of two elements, or None where they clash.
-use Rattle.std.specs.Prelude.{◌≡◌, Some, None, Option}
+use Rattle.std.specs.Prelude.{◌≡◌, Some, Option}
 
 -- if a joins b, then b joins a with the same result
 abbrev pub Commutes : {X : Type 0} → (X → X → Option X) → Type 0

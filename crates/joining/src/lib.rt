@@ -1,4 +1,6 @@
 // Elements that may join or clash, and the joining of two rows of them.
+#![tactic(auto)]
+
 mod element;
 mod kinds;
 mod rows;

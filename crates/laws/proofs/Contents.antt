@@ -14,12 +14,11 @@ use Rattle.model.specs.Geometry.{Geometry, class_of, slot_size, slot_offset, lon
 use Rattle.model.specs.Masks.{bit, set_places}
 use Rattle.model.specs.State.{frame_of}
 use Rattle.model.specs.Calls.{spans_after}
-use Rattle.laws.specs.Book.{over, over_entry}
+use Rattle.laws.specs.Book.{over_entry}
 use Rattle.laws.specs.Shape.{Stands, Owns, Shape}
 use Rattle.laws.proofs.Sizes.{class_holds, same_slot}
 use Rattle.laws.proofs.Tables.{put_same, put_other, put_all, none_some, peek_same, peek-zeros, peek-poke, poke-out}
 use Rattle.laws.proofs.Facts.{placed_at, patch-within, same_owner, owns_in_slot}
-use Rattle.laws.proofs.Taken as taken
 use Rattle.laws.proofs.Cleared as cleared
 use Rattle.laws.proofs.Copies.{copied-bytes, copied_other}
 use Rattle.laws.proofs.Merged as merged

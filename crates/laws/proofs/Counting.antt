@@ -10,7 +10,7 @@ use Rattle.model.specs.Runs.{Count}
 use Rattle.laws.specs.Book.{Addresses}
 use Rattle.laws.specs.Shape.{Shaped, row_table}
 use Rattle.laws.specs.Counts.{total, some_below, in_span, spans_of_book, frames_in}
-use Rattle.laws.specs.Laws.{end, next, book, first, CountLaw}
+use Rattle.laws.specs.Laws.{end, next, first, CountLaw}
 use Rattle.laws.proofs.Masks.{some_bit}
 use Rattle.laws.proofs.Tables.{put_same, put_other, some_same, is_some}
 use Rattle.laws.proofs.Totals.{total_change, tally-total, one_if, rows_out}

@@ -1,5 +1,5 @@
 -- What follows from the shape of a pool.
-use Rattle.std.proofs.Common.{◌≡◌, ℕ, ◌+◌, ◌*◌, ◌<◌, ◌≤◌, true, length, Some, Option, sym, ap, ◌∙◌, subst, arith}
+use Rattle.std.proofs.Common.{◌≡◌, ℕ, ◌+◌, ◌*◌, ◌<◌, ◌≤◌, true, Some, Option, sym, ap, ◌∙◌, subst, arith}
 use Rattle.bank.specs.Model.{BankState}
 use Rattle.model.specs.declared.Patch.{Patch}
 use Rattle.model.specs.declared.Row.{Row}

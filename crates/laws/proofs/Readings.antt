@@ -11,14 +11,13 @@ use Rattle.bank.specs.Model.{frame_bytes}
 use Rattle.model.specs.declared.Patch.{Patch}
 use Rattle.model.specs.Geometry.{Geometry, slot_offset, longest, address_of}
 use Rattle.model.specs.State.{State, frame_of}
-use Rattle.model.specs.Calls as calls
 use Rattle.model.specs.Calls.{holds, owner, first_of}
 use Rattle.model.specs.Mesh.{Meaning}
 use Rattle.model.specs.Runs.{to_read, to_fetch, filled}
 use Rattle.laws.specs.Book.{Addresses}
 use Rattle.laws.specs.Reading.{next_of, bytes_in, by_read, by_fetch, largest, longest_read, Heard, reading_of, as_heard, AsBooked}
 use Rattle.laws.specs.Shape.{Stands, Shape, Shaped, row_table}
-use Rattle.laws.specs.Laws.{end, next, book, first, reading, ReadingLaw, SameReadingsLaw}
+use Rattle.laws.specs.Laws.{end, next, book, first, ReadingLaw, SameReadingsLaw}
 use Rattle.laws.proofs.Masks.{kept_member}
 use Rattle.laws.proofs.Sizes.{same_slot}
 use Rattle.laws.proofs.Tables.{some_same, none_some, length-peek}

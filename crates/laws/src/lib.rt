@@ -3,6 +3,8 @@
 // Each function does nothing; its contract is a law, and its proof is the law's proof. The laws hold at every geometry,
 // over every bank's meaning, every lawful pairing in every condition (of the type C) and every seed. What they speak of,
 // plays, histories, books, readings and counts, is defined in specs/.
+#![tactic(auto)]
+
 ghost use Rattle.laws.specs.Laws.{ReadingLaw, SameReadingsLaw, FrameLaw, ShapeLaw, AddressLaw, TotalLaw, RefusalLaw, MergeLaw, CountLaw};
 
 // After every list of calls exactly the book's labels are accepted, each with its string's length and, by read and by

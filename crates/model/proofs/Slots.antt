@@ -1,5 +1,5 @@
 -- At the desktop unit a fresh frame has a free slot, and so has a frame that serves.
-use Rattle.std.proofs.Common.{◌≡◌, ℕ, zero, suc, ◌<◌, true, eqb, ltb, sym, refl, subst, arith, lit<}
+use Rattle.std.proofs.Common.{◌≡◌, ℕ, zero, suc, ◌<◌, true, eqb, ltb, sym, refl, subst, lit<}
 use Rattle.std.proofs.lemmas.Bool.{and_parts, eqb-true, ltb-true}
 use Rattle.model.specs.declared.Row.{Row}
 use Rattle.model.specs.Geometry.{desktop, slots, slot_size}

@@ -1,5 +1,5 @@
 -- The sizes of a pool, and what follows from them: classes of slots, and addresses.
-use Rattle.std.specs.Prelude.{◌≡◌, ℕ, zero, suc, ◌+◌, ◌*◌, ◌/◌, Bool, true, false, cond, ◌&&◌, leb, List, [], ◌∷◌, length, nat_le, nat_lt, slice_index_or, refl}
+use Rattle.std.specs.Prelude.{◌≡◌, ℕ, suc, ◌+◌, ◌*◌, ◌/◌, Bool, true, cond, ◌&&◌, leb, List, [], ◌∷◌, nat_le, nat_lt, slice_index_or, refl}
 use Rattle.model.specs.declared.Patch.{Patch}
 
 -- the numbers rise, from above a on

@@ -1,5 +1,5 @@
 -- What mesh answers and leaves.
-use Rattle.std.specs.Prelude.{ℕ, ◌+◌, ◌*◌, Bool, true, false, cond, ◌&&◌, ◌||◌, List, [], ◌∷◌, map, length, replicate, Some, None, Ok, Err, Option, Result, ◌==◌, bit_or, nat_lt, slice_index, slice_index_or, slice_set}
+use Rattle.std.specs.Prelude.{ℕ, ◌+◌, ◌*◌, Bool, false, cond, ◌&&◌, ◌||◌, List, [], ◌∷◌, map, length, replicate, Some, None, Ok, Err, Option, Result, ◌==◌, bit_or, nat_lt, slice_index, slice_index_or, slice_set}
 use Rattle.std.specs.List.{range_with_len, filter}
 use Rattle.refusal.specs.declared.Refusal.{Refusal}
 use Rattle.refusal.specs.declared.Refusal.TheVariants.{Class}
@@ -10,7 +10,6 @@ use Rattle.joining.specs.declared.kinds.Cell.TheVariants.{Empty as EmptyCell, Fu
 use Rattle.joining.specs.Kinds.{cell_joined, masks_join}
 use Rattle.joining.specs.Rows.{rows_joined}
 use Rattle.model.specs.declared.Row.{Row}
-use Rattle.model.specs.declared.Span.{Span}
 use Rattle.model.specs.declared.Event.TheVariants.{Merge}
 use Rattle.model.specs.declared.Meshed.{Meshed}
 use Rattle.model.specs.Geometry.{Geometry, slot_size, places}

@@ -1,4 +1,5 @@
 // The plain values of a pool, as the pool keeps them and as its definition in specs/ speaks of them.
+#![tactic(auto)]
 
 // A live patch: the span and the slot where it stands, and how many bytes it has.
 #[derive(Clone, Copy, PartialEq, Eq, Debug)]

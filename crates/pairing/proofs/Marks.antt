@@ -1,5 +1,5 @@
 -- What one pair more does to a proposal in the making.
-use Rattle.std.proofs.Common.{◌≡◌, ℕ, ◌/◌, ◌<◌, ◌≤◌, Bool, true, false, ◌||◌, eqb, leb, ◌⊎◌, List, length, get_or, set, sym, ap, ◌∙◌, subst, ⊎_elim, arith}
+use Rattle.std.proofs.Common.{◌≡◌, ℕ, ◌/◌, ◌<◌, ◌≤◌, Bool, true, false, ◌||◌, eqb, leb, List, length, get_or, set, sym, ap, ◌∙◌, subst, ⊎_elim, arith}
 use Rattle.std.proofs.lemmas.List.{length-set, length-take-le, take_more_set, get_or-set_same, get_or-set_other}
 use Rattle.std.proofs.ByRecursion.{all-has, has_push}
 use Rattle.std.proofs.lemmas.Bool.{cases_eq, and_parts, leb-true}

@@ -1,5 +1,5 @@
 -- Greedy: each place in turn, if it is unpaired, takes the least unpaired place above it whose mask joins.
-use Rattle.std.specs.Prelude.{◌≡◌, ℕ, ◌+◌, ◌-◌, ◌<◌, Bool, true, false, cond, not, ◌&&◌, ◌⊎◌, List, [], ◌∷◌, length, Some, None, fold, filter, Option, ◌≢◌}
+use Rattle.std.specs.Prelude.{◌≡◌, ℕ, ◌+◌, ◌-◌, ◌<◌, true, false, cond, ◌⊎◌, List, [], ◌∷◌, length, Some, None, fold, filter, Option, ◌≢◌}
 use Rattle.std.specs.List.{range_with_len}
 use Rattle.pairing.specs.declared.pairs.Pair.{Pair}
 use Rattle.pairing.specs.Pairs.{paired, joins, takes, taken, with_pair}

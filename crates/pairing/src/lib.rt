@@ -1,4 +1,6 @@
 // Pairings: which frames to mesh, proposed from their masks alone.
+#![tactic(auto)]
+
 mod halves;
 mod least;
 mod pairs;

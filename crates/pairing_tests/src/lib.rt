@@ -1,4 +1,6 @@
 // Joining and pairing on examples, and a pairing of another kind.
+#![tactic(auto)]
+
 ghost use Rattle.std.specs.Prelude.{[]};
 ghost use Rattle.std.proofs.Common.{rules};
 

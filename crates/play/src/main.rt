@@ -1,4 +1,6 @@
 // Plays the command list on standard input and prints its listing.
+#![tactic(auto)]
+
 use banks::FlatBank;
 use desk::{play_on, transcript};
 use pairing::Greedy;

@@ -10,7 +10,6 @@ use Rattle.model.specs.Runs as runs
 use Rattle.playback.specs.declared.command.Command.{Command}
 use Rattle.playback.specs.declared.line.Layer.{Layer}
 use Rattle.playback.specs.declared.line.Layer.TheVariants.{Playback, Pool, Bank}
-use Rattle.playback.specs.declared.line.Fault.{Fault}
 use Rattle.playback.specs.declared.line.Outcome.{Outcome}
 use Rattle.playback.specs.declared.line.Outcome.TheVariants.{Made, Written, Byte, Address, Freed, Merged, Counted, Refused}
 use Rattle.playback.specs.declared.line.Line.{Line}

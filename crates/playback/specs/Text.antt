@@ -1,11 +1,10 @@
 -- How lines are written.
-use Rattle.std.specs.Prelude.{ℕ, cond, List, [], ◌∷◌, ◌++◌, codes, decimal}
+use Rattle.std.specs.Prelude.{ℕ, cond, List, ◌++◌, codes, decimal}
 use Rattle.std.proofs.Math.Utf8.{encode}
 use Rattle.refusal.specs.declared.Refusal.{Refusal}
 use Rattle.refusal.specs.declared.Refusal.TheVariants.{Size, Class, Address as AddressPast, Command as UnknownLetter, Cut, Edge, Row, Clash, Taken, Absent, Past, Spans, Frames, Stray, NotOut}
 use Rattle.playback.specs.declared.line.Layer.{Layer}
 use Rattle.playback.specs.declared.line.Layer.TheVariants.{Playback, Pool, Bank}
-use Rattle.playback.specs.declared.line.Fault.{Fault}
 use Rattle.playback.specs.declared.line.Outcome.{Outcome}
 use Rattle.playback.specs.declared.line.Outcome.TheVariants.{Made, Written, Byte, Address, Freed, Merged, Counted, Refused}
 use Rattle.playback.specs.declared.line.Line.{Line}

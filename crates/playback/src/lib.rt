@@ -1,4 +1,6 @@
 // Playback: a list of command bytes is played on a pool, and every command answers with a line.
+#![tactic(auto)]
+
 mod command;
 mod line;
 mod run;

@@ -1,5 +1,5 @@
 -- What a proposal leaves in its buffer, and the merging of pairs in their order.
-use Rattle.std.proofs.Common.{◌≡◌, ℕ, ◌+◌, ◌/◌, ◌<◌, ◌≤◌, true, cond, leb, List, [], ◌∷◌, ◌++◌, map, length, get_or, take, drop, None, Ok, Err, Result, sym, ap, ◌∙◌, arith, length-append}
+use Rattle.std.proofs.Common.{◌≡◌, ℕ, ◌+◌, ◌/◌, ◌<◌, ◌≤◌, true, cond, leb, List, map, length, get_or, take, drop, None, Ok, Err, Result, sym, ap, ◌∙◌, arith, length-append}
 use Rattle.std.proofs.lemmas.List.{take_at, at_drop_more, at_drop_all}
 use Rattle.std.proofs.lemmas.Bool.{and_from, le-leb, cond-true}
 use Rattle.refusal.specs.declared.Refusal.{Refusal}

@@ -1,4 +1,6 @@
 // The pool: patches under labels, in slots of frames of a bank, at addresses that never change.
+#![tactic(auto)]
+
 mod calls;
 mod frames;
 mod leaves;

@@ -1,4 +1,5 @@
 // Pools at work: the same lists of commands over every kind of bank, and calls at the edges of what they accept.
+#![tactic(auto)]
 
 #[cfg(test)]
 mod tests {

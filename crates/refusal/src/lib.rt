@@ -1,3 +1,5 @@
+#![tactic(auto)]
+
 // Why a call was refused. One enum for every layer, so that a refusal passes from layer to layer as it is.
 //
 // The discriminant of a case is its number in listings. Where several cases apply to one call, the one with the

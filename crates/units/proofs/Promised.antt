@@ -1,5 +1,5 @@
 -- The laws of a pool, at units that were started and given lists of calls.
-use Rattle.std.proofs.Common.{◌≡◌, ℕ, List, [], ◌∷◌, map, sym, refl, ap, ◌∙◌, subst, lit≤}
+use Rattle.std.proofs.Common.{◌≡◌, ℕ, List, [], ◌∷◌, sym, refl, ap, subst, lit≤}
 use Rattle.bank.specs.Model.{BankState}
 use Rattle.model.specs.Geometry.{desktop}
 use Rattle.model.specs.State.{State, opened}

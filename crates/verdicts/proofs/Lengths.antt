@@ -1,7 +1,7 @@
 -- The longest accepted read, looked for from the longest down, and what is heard by it.
-use Rattle.std.proofs.Common.{◌≡◌, ℕ, zero, suc, ◌-◌, ◌<◌, ◌≤◌, Bool, true, false, cond, List, is_some, Some, None, Option, Vec, sym, refl, ap, ◌∙◌, arith}
+use Rattle.std.proofs.Common.{◌≡◌, ℕ, zero, suc, ◌-◌, ◌<◌, Bool, true, false, cond, List, is_some, Some, None, Option, Vec, sym, refl, ap, ◌∙◌, arith}
 use Rattle.std.specs.declared.alloc.Global.{Global}
-use Rattle.laws.specs.Reading.{Next, Heard, by_read, by_fetch, largest, longest_read, reading_of}
+use Rattle.laws.specs.Reading.{Next, Heard, by_read, by_fetch, longest_read, reading_of}
 use Rattle.verdicts.specs.Hearing.{bytes_of}
 
 module _ (answers : Next) (l : ℕ) where

@@ -1,5 +1,5 @@
 -- The search for the first place at which two tables differ.
-use Rattle.std.proofs.Common.{◌≡◌, ℕ, ◌+◌, ◌<◌, Bool, true, false, Some, None, Decides, sym, ap, ◌∙◌, arith, below_more}
+use Rattle.std.proofs.Common.{◌≡◌, ℕ, ◌+◌, ◌<◌, Bool, true, false, Some, Decides, sym, ap, ◌∙◌, arith, below_more}
 use Rattle.verdicts.specs.Apart.{FirstApart}
 
 module _ {A : Type 0} where

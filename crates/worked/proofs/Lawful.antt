@@ -1,5 +1,5 @@
 -- A pairing that keeps its law keeps the law that a pool asks of it.
-use Rattle.std.proofs.Common.{◌≡◌, ℕ, true, false, ◌||◌, eqb, List, [], ◌∷◌, map, sym}
+use Rattle.std.proofs.Common.{◌≡◌, ℕ, false, ◌||◌, eqb, List, [], ◌∷◌, map}
 use Rattle.std.specs.List.{AllByRecursion as All}
 use Rattle.std.proofs.lemmas.Bool.{eqb-false, or_parts}
 use Rattle.pairing.specs.declared.pairs.Pair.{Pair}

@@ -1,6 +1,6 @@
 -- The worked examples, in one theorem: draws, joinings, the shuffle, pairs, class boundaries, a list of calls with its
 -- answers and its book, a stray fetch, and a quota.
-use Rattle.std.specs.Prelude.{◌≡◌, ℕ, Bool, true, false, List, [], ◌∷◌, ◌++◌, map, take, replicate, Some, None, Ok, Err, Option}
+use Rattle.std.specs.Prelude.{◌≡◌, ℕ, Bool, true, false, List, [], ◌∷◌, ◌++◌, map, take, replicate, Some, None, Ok, Err}
 use Rattle.refusal.specs.declared.Refusal.TheVariants.{Size, Absent, Frames, Stray}
 use Rattle.bank.specs.Model.{BankState}
 use Rattle.banks.specs.Frames.{fresh}
@@ -12,7 +12,7 @@ use Rattle.model.specs.Geometry.{desktop, class_of}
 use Rattle.model.specs.State.{State, opened}
 use Rattle.model.specs.Mesh.{Meaning}
 use Rattle.model.specs.Runs.{Call, New, Write, Read, Fetch, Delete, Mesh, Count, Answer, to_new, to_write, to_read, to_fetch, to_delete, to_mesh, to_count, History, run, step}
-use Rattle.laws.specs.Book.{book_of, first_address}
+use Rattle.laws.specs.Book.{book_of}
 use Rattle.pool.specs.Pairings.{meaning_of}
 
 -- Greedy keeps nothing

@@ -1,4 +1,6 @@
 // Worked examples of a pool, computed; and the pairings of the code as the laws of a pool take them.
+#![tactic(auto)]
+
 ghost use Rattle.model.specs.Runs.{Lawful};
 ghost use Rattle.pool.specs.Pairings.{meaning_of};
 ghost use Rattle.worked.specs.Listing.{Worked};

@@ -1,6 +1,5 @@
-use Rattle.std.proofs.Common.{◌≡◌, ℕ, ◌+◌, ◌*◌, List, [], length, Ok, Err, sym, ap, ◌∙◌, mul-zero, arith}
+use Rattle.std.proofs.Common.{◌≡◌, ℕ, ◌+◌, ◌*◌, List, length, sym, ap, ◌∙◌, arith}
 use Rattle.model.specs.Geometry.{desktop, places}
-use Rattle.model.specs.Masks.{set_bits, set_places}
 use Rattle.model.specs.Mesh.{copies}
 use Rattle.model.proofs.Masks.{length-set_places}
 use Rattle.copying.proofs.Slots.{left, all_left, copies-next, copies_stopped, copies_passed, bytes_next, bytes_passed, none_left}

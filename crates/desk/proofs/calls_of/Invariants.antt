@@ -1,4 +1,4 @@
-use Rattle.std.proofs.Common.{◌≡◌, ℕ, ◌++◌, map, length, vec_items}
+use Rattle.std.proofs.Common.{◌≡◌, ◌++◌, map, length, vec_items}
 use Rattle.calls.specs.Values.{call_of}
 use Rattle.playback.specs.Format.{called}
 use Rattle.desk.specs.Commands.{commands, calls_in}

@@ -1,4 +1,4 @@
-use Rattle.std.proofs.Common.{◌≡◌, List, map, vec_items, sym, ap, ◌∙◌, rules}
+use Rattle.std.proofs.Common.{List, ap, ◌∙◌, rules}
 use Rattle.model.specs.Geometry.{desktop}
 use Rattle.model.specs.State.{State, opened}
 use Rattle.model.specs.Runs as runs

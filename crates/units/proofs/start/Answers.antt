@@ -1,4 +1,4 @@
-use Rattle.std.proofs.Common.{◌≡◌, map, vec_items, sym, ap, ◌∙◌}
+use Rattle.std.proofs.Common.{map, vec_items, ap, ◌∙◌}
 use Rattle.model.specs.Runs.{Lawful}
 use Rattle.worked.proofs.Lawful.{fair-from}
 use Rattle.pool.specs.View.{state_of}

@@ -1,4 +1,4 @@
-use Rattle.std.proofs.Common.{◌≡◌, ◌≤◌, length, get_or, refl, rules}
+use Rattle.std.proofs.Common.{refl, rules}
 use Rattle.std.proofs.lemmas.List.{take_rest}
 use Rattle.playback.specs.declared.command.Command.TheVariants.{Count}
 use Rattle.playback.specs.Format.{whole, new_command, write_command, read_command, fetch_command, place_command, delete_command, mesh_command}

@@ -1,6 +1,5 @@
-use Rattle.std.proofs.Common.{◌≡◌, ℕ, ◌≤◌, length, get_or, sym, refl, ap, ◌∙◌, rules}
+use Rattle.std.proofs.Common.{◌≤◌, length, refl, rules}
 use Rattle.std.proofs.lemmas.List.{take_rest}
-use Rattle.playback.specs.declared.command.Command.TheVariants.{Place}
 use Rattle.playback.specs.Format.{place_command}
 use Rattle.playback.proofs.Formats.{whole_is}
 use Rattle.playback.proofs.command.decode_place.Goals as goal

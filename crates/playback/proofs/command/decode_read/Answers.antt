@@ -1,4 +1,4 @@
-use Rattle.std.proofs.Common.{◌≡◌, ℕ, ◌≤◌, length, get_or, sym, refl, ap, ◌∙◌, rules}
+use Rattle.std.proofs.Common.{◌≤◌, length, get_or, sym, ap, rules}
 use Rattle.std.proofs.lemmas.List.{take_rest}
 use Rattle.playback.specs.declared.command.Command.TheVariants.{Read}
 use Rattle.playback.specs.Format.{read_command}

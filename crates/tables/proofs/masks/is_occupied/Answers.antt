@@ -1,4 +1,4 @@
-use Rattle.std.proofs.Common.{sym, ◌∙◌, arith, rules}
+use Rattle.std.proofs.Common.{sym, ◌∙◌, rules}
 use Rattle.std.proofs.lemmas.Bool.{le-ltb}
 use Rattle.tables.proofs.Loops.{bit_test, bit_past}
 use Rattle.tables.proofs.masks.is_occupied.Goals as goal

@@ -1,4 +1,4 @@
-use Rattle.std.proofs.Common.{◌≡◌, ℕ, ◌<◌, ◌≤◌, map, length, ap, ⊎_elim, arith}
+use Rattle.std.proofs.Common.{◌<◌, ◌≤◌, map, length, ap, ⊎_elim, arith}
 use Rattle.std.proofs.lemmas.Bool.{cases_lt}
 use Rattle.laws.specs.Book.{addresses_after, first_address}
 use Rattle.calls.specs.Values.{call_of, answer_of}

@@ -1,4 +1,3 @@
-use Rattle.pool.specs.View.{state_of}
 use Rattle.verdicts.proofs.Whole.{read_whole}
 use Rattle.verdicts.proofs.frames.frame_bytes.Goals as goal
 

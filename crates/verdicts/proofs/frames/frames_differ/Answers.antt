@@ -1,6 +1,4 @@
 use Rattle.std.proofs.Common.{◌≡◌, ℕ, List, ap, ◌∙◌, arith}
-use Rattle.bank.specs.Model.{BankState}
-use Rattle.pool.specs.View.{state_of}
 use Rattle.model.specs.State.{State}
 use Rattle.verdicts.specs.Held.{held}
 use Rattle.verdicts.proofs.Searches.{decides_of, agrees_here, differs_here}

@@ -1,4 +1,4 @@
-use Rattle.std.proofs.Common.{◌≡◌, ℕ, ◌-◌, ◌<◌, ap, ◌∙◌, arith}
+use Rattle.std.proofs.Common.{◌≡◌, ◌-◌, ap, ◌∙◌, arith}
 use Rattle.model.specs.Geometry.{desktop}
 use Rattle.model.specs.State.{State}
 use Rattle.laws.specs.Reading.{next_of, by_read}

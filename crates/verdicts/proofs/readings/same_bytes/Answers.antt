@@ -1,4 +1,4 @@
-use Rattle.std.proofs.Common.{◌≡◌, ℕ, List, Some, vec_items, Option, sym, ap}
+use Rattle.std.proofs.Common.{Some, vec_items, sym, ap}
 use Rattle.std.proofs.lemmas.Slice.Eq.{slice_eq-Decides}
 use Rattle.verdicts.specs.Hearing.{bytes_of}
 use Rattle.verdicts.proofs.Searches.{decides_of, decides_some}

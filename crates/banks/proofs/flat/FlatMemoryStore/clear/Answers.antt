@@ -1,4 +1,4 @@
-use Rattle.std.proofs.Common.{◌≡◌, ◌+◌, ◌-◌, ◌≤◌, length, take, drop, replicate, ap, ◌∙◌, arith, length-drop, length-take}
+use Rattle.std.proofs.Common.{◌≡◌, ◌+◌, ◌-◌, ◌≤◌, length, take, drop, ap, ◌∙◌, arith, length-drop, length-take}
 use Rattle.banks.specs.Memory.{whole_frames}
 use Rattle.banks.proofs.Stretches.{zeros, length-zeros, part_bytes, part_length, whole-within}
 use Rattle.banks.proofs.flat.FlatMemoryStore.clear.Goals as goal

@@ -1,4 +1,4 @@
-use Rattle.std.proofs.Common.{◌≡◌, length, take, replicate}
+use Rattle.std.proofs.Common.{◌≡◌, length, take}
 use Rattle.bank.specs.Tables.{poke}
 use Rattle.banks.specs.Memory.{woven}
 use Rattle.banks.proofs.lane.LaneMemoryStore.write.Given as goal

@@ -1,6 +1,6 @@
 use Rattle.std.proofs.Common.{sym, ap, ◌∙◌, subst}
 use Rattle.pairing.specs.Pairs.{taken, Lawful}
-use Rattle.pairing.specs.Found.{listed, added, Sound}
+use Rattle.pairing.specs.Found.{listed, Sound}
 use Rattle.pairing.proofs.Marks.{added-fits, added-listed, added_sound}
 use Rattle.pairing.proofs.proposal.Proposal.take.Goals as goal
 

@@ -1,4 +1,4 @@
-use Rattle.std.proofs.Common.{◌≡◌, ℕ, Bool, get_or, None, sym, ap, ◌∙◌}
+use Rattle.std.proofs.Common.{ℕ, Bool, get_or, None, sym, ap, ◌∙◌}
 use Rattle.model.specs.Geometry.{desktop}
 use Rattle.model.specs.Calls.{first_of, holds, owner}
 use Rattle.model.proofs.Places.{passing_all, passing_yes, passing_no, passing-end}

@@ -1,4 +1,4 @@
-use Rattle.std.proofs.Common.{◌≡◌, ℕ, ◌+◌, ◌<◌, Bool, true, false, length, get_or, take, None, sym, ap, ◌∙◌, subst, arith, length-set}
+use Rattle.std.proofs.Common.{◌≡◌, ℕ, ◌+◌, Bool, length, get_or, take, None, sym, ap, ◌∙◌, arith, length-set}
 use Rattle.std.specs.List.{range_with_len, filter}
 use Rattle.model.specs.Mesh.{of_class, listed}
 use Rattle.tables.specs.Views.{rows_of}

@@ -1,4 +1,4 @@
-use Rattle.std.proofs.Common.{◌≡◌, ℕ, Bool, get_or, Some, sym, ap, ◌∙◌, subst, arith}
+use Rattle.std.proofs.Common.{◌≡◌, ℕ, Bool, get_or, sym, ap, ◌∙◌, arith}
 use Rattle.model.specs.declared.Span.TheVariants.{Idle}
 use Rattle.model.specs.State.{is_idle}
 use Rattle.model.specs.Calls.{first_of, lowest_idle}
