@@ -1,7 +1,7 @@
 -- What each call comes to in a pool of the right shape: its ways, for whatever is to be shown of its answer and of the
 -- pool afterwards. The ways that the definitions have only to be total are not among them.
 use Rattle.std.proofs.Common.{◌≡◌, ℕ, ◌+◌, ◌-◌, ◌*◌, ◌<◌, ◌≤◌, Bool, true, false, ◌&&◌, eqb, ltb, leb, List, [], ◌∷◌, length, get_or, replicate, Some, None, Ok, Err, fold, filter, Option, Result, sym, refl, ap, subst, arith}
-use Rattle.std.specs.List.{range_with_len, AllByRecursion as All}
+use Rattle.std.specs.List.{range_with_len, AllByRecursion}
 use Rattle.std.proofs.lemmas.Bool.{eqb-true, leb-true, leb-false, ltb-true, ltb-false, and_parts, cond_both}
 use Rattle.std.proofs.lemmas.List.{length-replicate}
 use Rattle.std.proofs.ByRecursion.{all_kept_by, kept_by_passes}
@@ -65,7 +65,7 @@ serving-serves g class rows =
     folded_keeps (Serves g class rows) (λ held f. better g class f (get_or rows f None) held)
     (λ held f h. better-serves g class rows f (get_or rows f None) held refl h) (range_with_len 0 g.frames) None (unfold Serves in tt)
 
-pub first_all : {A : Type 0} (P : A → Type 0) (xs : List A) (x : A) → All P xs → first_of xs ≡ Some x → P x
+pub first_all : {A : Type 0} (P : A → Type 0) (xs : List A) (x : A) → AllByRecursion P xs → first_of xs ≡ Some x → P x
 first_all P [] x all e = absurd (none_some e)
 first_all P (y ∷ ys) x all e = subst P (some_same e) all.0
 

@@ -2,7 +2,7 @@
 use Rattle.std.proofs.Common.{◌≡◌, ℕ, ◌+◌, ◌-◌, ◌*◌, ◌<◌, ◌≤◌, true, eqb, leb, ◌⊎◌, List, [], ◌∷◌, map, length, replicate, Some, Ok, sym, refl, ap, ◌∙◌, subst, inl, inr, arith}
 use mathlib.Core.List.Memᴰ
 use mathlib.Core.List.{Memᴰ}
-use Rattle.std.specs.List.{AllByRecursion as All}
+use Rattle.std.specs.List.{AllByRecursion}
 use Rattle.std.proofs.lemmas.Bool.{eq-eqb, le-leb, cases_lt, cond-true}
 use Rattle.std.proofs.lemmas.List.{length-replicate, length-map}
 use Rattle.bank.specs.Tables.{put, peek, poke}
@@ -62,7 +62,7 @@ pub copied-bytes : ℕ → ℕ → ℕ → List ℕ → (ℕ → ℕ → ℕ) �
 copied-bytes size f h [] b = b
 copied-bytes size f h (s ∷ ss) b = copied-bytes size f h ss (put b h (poke (b h) (size * s) (peek (b f) (size * s) size)))
 
-pub copies_are : (size f h : ℕ) (ss : List ℕ) (m : BankState) → All (λ s. size * s + size ≤ frame_bytes) ss → m.out f ≡ true → m.out h ≡ true
+pub copies_are : (size f h : ℕ) (ss : List ℕ) (m : BankState) → AllByRecursion (λ s. size * s + size ≤ frame_bytes) ss → m.out f ≡ true → m.out h ≡ true
     → copies size f h ss m ≡ (Ok tt, with_bytes (copied-bytes size f h ss m.bytes) m)
 unfolding copied-bytes
 copies_are size f h [] m within out-f out-h = refl

@@ -3,7 +3,7 @@ use Rattle.std.proofs.Common.{◌≡◌, ℕ, zero, suc, ◌+◌, ◌-◌, ◌/�
 use mathlib.Core.List.{Memᴰ}
 use lib.Arith.{bin_ind}
 use lib.Bits.{bit_and, bit_or, and_step, or_step, or_shr, and_shr, or_lt}
-use Rattle.std.specs.List.{range_with_len, AllByRecursion as All}
+use Rattle.std.specs.List.{range_with_len, AllByRecursion}
 use Rattle.std.proofs.lemmas.Bool.{eqb-true, eqb-false, ne_eqb, both_ways, cases_lt, cases_Bool, cases_eq}
 use Rattle.std.proofs.lemmas.Bool.Decides.{nat_tests}
 use Rattle.std.proofs.lemmas.Nat.{pow_pos, pow_below, shr-shr, div_below}
@@ -203,11 +203,11 @@ counting_split a (suc k) n =
     ap (range_with_len a) (let e : suc k + n ≡ suc (k + n) = omega arith in e)
     ∙ ap (λ r. a ∷ r) (counting_split (a + 1) k n ∙ ap (λ x. range_with_len (a + 1) k ++ range_with_len x n) (omega arith))
 
-pub counting_within : (a n : ℕ) → All (λ s. (a ≤ s) × (s < a + n)) (range_with_len a n)
+pub counting_within : (a n : ℕ) → AllByRecursion (λ s. (a ≤ s) × (s < a + n)) (range_with_len a n)
 counting_within a zero = tt
 counting_within a (suc n) = ((omega arith, omega arith), wider a n (range_with_len (a + 1) n) (counting_within (a + 1) n))
   where
-    wider : (a n : ℕ) (xs : List ℕ) → All (λ s. (a + 1 ≤ s) × (s < a + 1 + n)) xs → All (λ s. (a ≤ s) × (s < a + suc n)) xs
+    wider : (a n : ℕ) (xs : List ℕ) → AllByRecursion (λ s. (a + 1 ≤ s) × (s < a + 1 + n)) xs → AllByRecursion (λ s. (a ≤ s) × (s < a + suc n)) xs
     wider a n [] h = tt
     wider a n (x ∷ xs) h = ((omega arith, omega arith), wider a n xs h.1)
 
@@ -247,7 +247,7 @@ free_place-fits n w m k wide small few =
     not_true' false e = refl
 
 -- the set places are those whose bit is set
-pub set_places-set : (n m : ℕ) → All (λ s. bit m s ≡ true) (set_places n m)
+pub set_places-set : (n m : ℕ) → AllByRecursion (λ s. bit m s ≡ true) (set_places n m)
 unfolding set_places
 set_places-set n m = kept_by_passes (λ s. bit m s) (range_with_len 0 n)
 

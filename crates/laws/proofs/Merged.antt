@@ -3,7 +3,7 @@ use Rattle.std.proofs.Common.{◌≡◌, ℕ, ◌+◌, ◌*◌, ◌^◌, ◌<◌
 use mathlib.Core.List.Memᴰ
 use mathlib.Core.List.{Memᴰ}
 use lib.Bits.{bit_and, bit_or, or_lt}
-use Rattle.std.specs.List.{AllByRecursion as All}
+use Rattle.std.specs.List.{AllByRecursion}
 use Rattle.std.proofs.lemmas.Bool.{eq-eqb, ne_eqb, both_ways, or_cases, or_left, or_right, cases_eq, cond-true, cond-false}
 use Rattle.bank.specs.Tables.{put}
 use Rattle.bank.specs.Model.{BankState, returned}
@@ -102,7 +102,7 @@ module _ {g : Geometry} {L : ℕ → Option Patch} {S : ℕ → Span} {R : ℕ �
   set_in_source : (s : ℕ) → Memᴰ s (set_places (places g) source.mask) → bit source.mask s ≡ true
   set_in_source s mem = all_member (λ s. bit source.mask s ≡ true) (set_places (places g) source.mask) s (set_places-set (places g) source.mask) mem
     where
-      all_member : (P : ℕ → Type 0) (xs : List ℕ) (x : ℕ) → All P xs → Memᴰ x xs → P x
+      all_member : (P : ℕ → Type 0) (xs : List ℕ) (x : ℕ) → AllByRecursion P xs → Memᴰ x xs → P x
       all_member P [] x all mem = absurd (Memᴰ.not-nil mem)
       all_member P (y ∷ ys) x all mem = by_place (Memᴰ.cases_cons mem) (λ later. all_member P ys x all.1 later)
         where

@@ -1,7 +1,7 @@
 -- Mesh: each merge does what it says, and so does the whole.
 use Rattle.std.proofs.Common.{◌≡◌, ℕ, zero, suc, ◌+◌, ◌*◌, ◌<◌, ◌≤◌, true, ◌&&◌, eqb, ltb, ◌⊎◌, List, [], ◌∷◌, length, get_or, set, Some, None, Ok, Err, Option, Result, sym, refl, ap, ◌∙◌, subst, inl, inr, mul-add, arith}
 use lib.Bits.{bit_and, bit_or, and_comm}
-use Rattle.std.specs.List.{AllByRecursion as All}
+use Rattle.std.specs.List.{AllByRecursion}
 use Rattle.std.proofs.lemmas.Bool.{eq-eqb, eqb-true, ltb-true, ltb-false, or_left, or_cases, or_parts, and_parts, cond_both, cond-true, cases_eq, true≢false}
 use Rattle.std.proofs.lemmas.List.{length-set}
 use Rattle.std.proofs.lemmas.Nat.{mul-le}
@@ -115,7 +115,7 @@ module _ {C : Type 0} (g : Geometry) (short : g.frame ≤ frame_bytes) (s : Stat
     merge_into-is =
         let size = slot_size g source.class in
         let ss = set_places (places g) source.mask in
-        let fit : All (λ k. size * k + size ≤ frame_bytes) ss =
+        let fit : AllByRecursion (λ k. size * k + size ≤ frame_bytes) ss =
         All-weaker (λ k. bit source.mask k ≡ true) (λ k. size * k + size ≤ frame_bytes)
         (λ k set. omega (arith, short, source-slots sh f h source destination now_f now_h apart alike joins k set)) ss (set_places-set (places g) source.mask) in
         cond-true (masks_join destination.mask source.mask) _ _ (eq-eqb (bit_and destination.mask source.mask) 0 joins)

@@ -2,7 +2,7 @@
 -- were when they were listed.
 use Rattle.std.proofs.Common.{◌≡◌, ℕ, zero, suc, ◌+◌, ◌<◌, ◌≤◌, Bool, true, false, cond, List, [], ◌∷◌, length, get_or, Some, None, filter, Option, sym, refl, ap, ◌∙◌, arith}
 use lib.Bits.{bit_and}
-use Rattle.std.specs.List.{range_with_len, AllByRecursion as All}
+use Rattle.std.specs.List.{range_with_len, AllByRecursion}
 use Rattle.std.proofs.lemmas.Bool.{eqb-true}
 use Rattle.std.proofs.lemmas.List.{length-map, get_or-map}
 use Rattle.std.proofs.ByRecursion.{all_kept_by, kept_by_passes, All-get_or}
@@ -25,7 +25,7 @@ kept_apart test a (suc n) i j hi hj e =
     (all_kept_by test (λ k. (a + 1 ≤ k) × (k < a + 1 + n)) (range_with_len (a + 1) n) (counting_within (a + 1) n))
     (λ i j hi hj e. kept_apart test (a + 1) n i j hi hj e) i j hi hj e
   where
-    by_head : (rest : List ℕ) → All (λ k. (a + 1 ≤ k) × (k < a + 1 + n)) rest
+    by_head : (rest : List ℕ) → AllByRecursion (λ k. (a + 1 ≤ k) × (k < a + 1 + n)) rest
         → ((i j : ℕ) → i < length rest → j < length rest → get_or rest i 0 ≡ get_or rest j 0 → i ≡ j)
         → (i j : ℕ) → i < suc (length rest) → j < suc (length rest) → get_or (a ∷ rest) i 0 ≡ get_or (a ∷ rest) j 0
         → i ≡ j
@@ -34,7 +34,7 @@ kept_apart test a (suc n) i j hi hj e =
     by_head rest above ih (suc i) zero hi hj e = absurd (omega (arith, e, All-get_or (λ k. (a + 1 ≤ k) × (k < a + 1 + n)) rest i 0 (omega arith) above))
     by_head rest above ih (suc i) (suc j) hi hj e = ap suc (ih i j (omega arith) (omega arith) e)
 
-    by_test : (t : Bool) (rest : List ℕ) → All (λ k. (a + 1 ≤ k) × (k < a + 1 + n)) rest
+    by_test : (t : Bool) (rest : List ℕ) → AllByRecursion (λ k. (a + 1 ≤ k) × (k < a + 1 + n)) rest
         → ((i j : ℕ) → i < length rest → j < length rest → get_or rest i 0 ≡ get_or rest j 0 → i ≡ j)
         → (i j : ℕ) → i < length (cond t (a ∷ rest) rest) → j < length (cond t (a ∷ rest) rest) → get_or (cond t (a ∷ rest) rest) i 0 ≡ get_or (cond t (a ∷ rest) rest) j 0
         → i ≡ j

@@ -1,7 +1,7 @@
 -- Folds and filters over the numbers from a place on.
 use Rattle.std.specs.Prelude.{◌≡◌, ℕ, zero, suc, ◌+◌, ◌-◌, ◌<◌, ◌≤◌, Bool, true, false, List, [], ◌∷◌, ◌++◌, Some, None, fold, filter}
 use Rattle.std.proofs.Common.{sym, ap, ◌∙◌, arith, ⊎_elim}
-use Rattle.std.specs.List.{range_with_len, AllByRecursion as All}
+use Rattle.std.specs.List.{range_with_len, AllByRecursion}
 use Rattle.std.proofs.lemmas.List.{map-id}
 use Rattle.std.proofs.lemmas.List.Sums.{fold_push}
 use Rattle.std.proofs.lemmas.List.FromFn.{map-range_with_len_more, length-range_with_len, get_or-range_with_len}
@@ -13,7 +13,7 @@ pub counting_push : (n : ℕ) → range_with_len 0 (n + 1) ≡ range_with_len 0 
 counting_push n =
     sym (map-id (range_with_len 0 (n + 1))) ∙ map-range_with_len_more (λ x. x) 0 n n (omega arith) ∙ ap (λ l. l ++ n ∷ []) (map-id (range_with_len 0 n))
 
-pub counting_below : (n : ℕ) → All (λ k. k < n) (range_with_len 0 n)
+pub counting_below : (n : ℕ) → AllByRecursion (λ k. k < n) (range_with_len 0 n)
 counting_below n =
     All-from_get_or (λ k. k < n) (range_with_len 0 n) 0
     (λ i h. let l : i < n = omega (arith, length-range_with_len 0 n, h) in omega (arith, get_or-range_with_len 0 n i 0 l))
@@ -25,7 +25,7 @@ folded_counting_more f a n = ap (fold f a) (counting_push n) ∙ fold_push f a (
 
 -- what every turn keeps, the fold keeps
 pub folded_keeps : {A B : Type 0} (P : B → Type 0) (Q : A → Type 0) (f : B → A → B) → ((b : B) (x : A) → Q x → P b → P (f b x))
-    → (xs : List A) (a : B) → All Q xs → P a → P (fold f a xs)
+    → (xs : List A) (a : B) → AllByRecursion Q xs → P a → P (fold f a xs)
 folded_keeps P Q f step [] a all p = p
 folded_keeps P Q f step (x ∷ xs) a all p = folded_keeps P Q f step xs (f a x) all.1 (step a x all.0 p)
 

@@ -1,7 +1,7 @@
 -- What keeps pairs lawful, and how many lawful pairs there can be.
 use Rattle.std.specs.Prelude.{◌≡◌, ℕ, zero, suc, ◌+◌, ◌*◌, ◌<◌, ◌≤◌, Bool, true, false, cond, not, ◌&&◌, ◌||◌, List, [], ◌∷◌, ◌++◌, length, replicate, sum_by, count_by, ◌==◌, ◌≢◌, slice_index_or, slice_set, refl}
 use Rattle.std.proofs.Common.{sym, ap, ◌∙◌, arith}
-use Rattle.std.specs.List.{AllByRecursion as All}
+use Rattle.std.specs.List.{AllByRecursion}
 use Rattle.std.proofs.lemmas.List.{length_push, length-set, length-replicate, get_or-set_other, get_or-replicate}
 use Rattle.std.proofs.ByRecursion.{All-push}
 use Rattle.std.proofs.lemmas.List.Sums.{sum_by-set, count_by-le-length}
@@ -71,7 +71,7 @@ unmarked n (p ∷ ps) k h e =
     ∙ unmarked n ps k h o.1
 
 -- each pair marks two places more
-marked_count : (ms : List ℕ) (ps : List Pair) → All (Fair ms) ps → Apart ps
+marked_count : (ms : List ℕ) (ps : List Pair) → AllByRecursion (Fair ms) ps → Apart ps
     → count_by (λ b. b) (mark_all (length ms) ps) ≡ length ps * 2
 unfolding mark_all
 marked_count ms [] fair apart = none (length ms)

@@ -1,6 +1,6 @@
 -- Pairs of places in a list of masks: when they are lawful, and what a proposal answers and leaves.
 use Rattle.std.specs.Prelude.{◌≡◌, ℕ, ◌/◌, ◌<◌, Bool, true, false, cond, not, ◌&&◌, ◌||◌, List, [], ◌∷◌, ◌++◌, length, drop, Some, None, Option, ◌==◌, nat_le, slice_index}
-use Rattle.std.specs.List.{AllByRecursion as All}
+use Rattle.std.specs.List.{AllByRecursion}
 use Rattle.joining.specs.Kinds.{masks_join}
 use Rattle.pairing.specs.declared.pairs.Pair.{Pair}
 
@@ -27,7 +27,7 @@ Apart (p ∷ ps) = (paired p.left ps ≡ false) × (paired p.right ps ≡ false)
 
 -- the law of every pairing
 pub record Lawful (ms : List ℕ) (ps : List Pair) : Type 0 where
-  pub fair : All (Fair ms) ps
+  pub fair : AllByRecursion (Fair ms) ps
   pub apart : Apart ps
 
 -- one pair more

@@ -1,6 +1,6 @@
 -- A pairing that keeps its law keeps the law that a pool asks of it.
 use Rattle.std.proofs.Common.{◌≡◌, ℕ, false, ◌||◌, eqb, List, [], ◌∷◌, map}
-use Rattle.std.specs.List.{AllByRecursion as All}
+use Rattle.std.specs.List.{AllByRecursion}
 use Rattle.std.proofs.lemmas.Bool.{eqb-false, or_parts}
 use Rattle.pairing.specs.declared.pairs.Pair.{Pair}
 use Rattle.pairing.specs.Pairs as pairs
@@ -15,7 +15,7 @@ unpaired_from k (p ∷ ps) free =
     let here = or_parts (eqb k p.left) (eqb k p.right) parts.0 in
     (eqb-false k p.left here.0, eqb-false k p.right here.1, unpaired_from k ps parts.1)
 
-fair_each : (ms : List ℕ) (ps : List Pair) → All (pairs.Fair ms) ps → pairs.Apart ps → Fair ms (map places_of ps)
+fair_each : (ms : List ℕ) (ps : List Pair) → AllByRecursion (pairs.Fair ms) ps → pairs.Apart ps → Fair ms (map places_of ps)
 fair_each ms [] fair apart = tt
 fair_each ms (p ∷ ps) fair apart =
     (fair.0.left_below, fair.0.right_below, fair.0.differ, fair.0.join, unpaired_from p.left ps apart.0, unpaired_from p.right ps apart.1, fair_each ms ps fair.1 apart.2)
