@@ -1,7 +1,7 @@
 // The interface of every bank of frames.
 #![tactic(auto)]
 
-ghost use Rattle.std.specs.Prelude.{◌≡◌, ℕ, ◌<◌, ◌≤◌, length, Ok, Result};
+ghost use Rattle.std.specs.Prelude.{◌≡◌, ℕ, ◌<◌, ◌≤◌, length, Ok};
 ghost use Rattle.bank.specs.Model.{BankState, most_frames, reset as resetting, grant as granting, give_back as giving, read as reading, write as writing};
 ghost use Rattle.bank.specs.Sound.{Proper};
 ghost use Rattle.bank.specs.Laws.{ResetSound, StaysSound, Regrants, GrantsZeros, RefusalsKeep};

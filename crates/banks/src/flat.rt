@@ -1,5 +1,5 @@
 // The flat bank: frame f lies at bytes 1,024 × f onward of one memory.
-ghost use Rattle.std.specs.Prelude.{◌≡◌, ℕ, ◌*◌, ◌≤◌, length, slice_index};
+ghost use Rattle.std.specs.Prelude.{◌≡◌, ◌*◌, ◌≤◌, length, slice_index};
 ghost use Rattle.bank.specs.Sound.{Sound};
 ghost use Rattle.banks.specs.Memory.{whole_frames, checked, cleared};
 ghost use Rattle.banks.specs.Frames.{flat_bank, fresh, FlatEndToEnd};

@@ -1,5 +1,5 @@
 // The lane bank: byte i of frame f lies at byte 512 × f + i / 2, of its first memory for even i, of its second for odd.
-ghost use Rattle.std.specs.Prelude.{◌≡◌, ℕ, ◌+◌, ◌*◌, ◌<◌, ◌≤◌, length};
+ghost use Rattle.std.specs.Prelude.{◌≡◌, ◌*◌, ◌<◌, ◌≤◌, length};
 ghost use Rattle.bank.specs.Sound.{Sound};
 ghost use Rattle.bank.specs.Tables.{put};
 ghost use Rattle.banks.specs.Memory.{lane_frames, woven, checked, cleared};

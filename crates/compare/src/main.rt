@@ -8,7 +8,6 @@ use calls::Call;
 use comparison::compare;
 use desk::calls_of;
 use pairing::Greedy;
-use std::alloc::Global;
 use std::env;
 use std::fs::File;
 use std::io::Read;

@@ -1,7 +1,7 @@
 // Pseudo-random draws: Marsaglia's xorshift32.
 #![tactic(auto)]
 
-ghost use Rattle.std.specs.Prelude.{◌≡◌, ℕ, ◌^◌, ◌<◌, [], ◌∷◌};
+ghost use Rattle.std.specs.Prelude.{◌≡◌, ◌<◌, [], ◌∷◌};
 ghost use Rattle.draws.specs.Draws.{next, begun, drawn};
 
 mod order;

@@ -1,5 +1,4 @@
 // The two kinds of elements that join.
-ghost use Rattle.std.specs.Prelude.{◌≡◌};
 ghost use Rattle.joining.specs.Kinds.{word_joined, empty_word, cell_joined, empty_cell};
 ghost use Rattle.joining.specs.Masks.{word_commutes, word_groups};
 ghost use Rattle.std.proofs.Common.{rules};

@@ -184,7 +184,7 @@ module _ {g : Geometry} {L : ℕ → Option Patch} {S : ℕ → Span} {R : ℕ �
       → content g (spans_after (Merge f h) S)
       (put (copied-bytes (slot_size g source.class) f h (set_places (places g) source.mask) m.bytes) f (λ i. 0)) (L l)
       ≡ content g S m.bytes (L l)
-  merge_contents f h source destination has_f HasH apart alike joins l =
+  merge_contents f h source destination has_f has_h apart alike joins l =
       content_kept (spans_after (Merge f h) S) (put moved f (λ i. 0)) l (λ p q live stands. where_now p q live stands (cases_eq q f) (cases_eq q h))
     where
       moved : ℕ → ℕ → ℕ
@@ -200,26 +200,26 @@ module _ {g : Geometry} {L : ℕ → Option Patch} {S : ℕ → Span} {R : ℕ �
           let in_f : Stands S p f = stands ∙ ap (λ z. Some z) at_f in
           record {
             frame = h;
-            stands = merged.moves sh f h source destination has_f HasH apart alike joins p in_f;
+            stands = merged.moves sh f h source destination has_f has_h apart alike joins p in_f;
             same = λ i from below.
                 ap (λ r. r i) (put_other moved f (λ i. 0) h (λ e. apart (sym e)))
-                ∙ merged.moved_in sh f h source destination has_f HasH apart alike joins l p i live in_f from (short p i live below)
+                ∙ merged.moved_in sh f h source destination has_f has_h apart alike joins l p i live in_f from (short p i live below)
                 ∙ ap (λ z. m.bytes z i) (sym at_f);
           }
       where_now p q live stands (inr not_f) (inl at-h) =
           let in_h : Stands S p h = stands ∙ ap (λ z. Some z) at-h in
           record {
             frame = h;
-            stands = merged.stays sh f h source destination has_f HasH apart alike joins p h in_h (λ e. apart (sym e));
+            stands = merged.stays sh f h source destination has_f has_h apart alike joins p h in_h (λ e. apart (sym e));
             same = λ i from below.
                 ap (λ r. r i) (put_other moved f (λ i. 0) h (λ e. apart (sym e)))
-                ∙ merged.kept_in sh f h source destination has_f HasH apart alike joins l p i live in_h from (short p i live below)
+                ∙ merged.kept_in sh f h source destination has_f has_h apart alike joins l p i live in_h from (short p i live below)
                 ∙ ap (λ z. m.bytes z i) (sym at-h);
           }
       where_now p q live stands (inr not_f) (inr not-h) =
           record {
             frame = q;
-            stands = merged.stays sh f h source destination has_f HasH apart alike joins p q stands not_f;
+            stands = merged.stays sh f h source destination has_f has_h apart alike joins p q stands not_f;
             same = λ i from below.
                 ap (λ r. r i) (put_other moved f (λ i. 0) q not_f)
                 ∙ ap (λ r. r i) (copied_other (slot_size g source.class) f h (set_places (places g) source.mask) m.bytes q not-h);

@@ -56,7 +56,7 @@ joined_row destination source =
     record { class = destination.class; mask = bit_or destination.mask source.mask; home = destination.home }
 
 module _ {g : Geometry} {L : ℕ → Option Patch} {S : ℕ → Span} {R : ℕ → Option Row} {m : BankState} (sh : Shape g L S R m)
-    (f h : ℕ) (source destination : Row) (has_f : R f ≡ Some source) (HasH : R h ≡ Some destination) (apart_fh : f ≡ h → ⊥)
+    (f h : ℕ) (source destination : Row) (has_f : R f ≡ Some source) (has_h : R h ≡ Some destination) (apart_fh : f ≡ h → ⊥)
     (alike : source.class ≡ destination.class) (joins : bit_and destination.mask source.mask ≡ 0) where
   T : ℕ → Span
   T = spans_after (Merge f h) S
@@ -116,7 +116,7 @@ module _ {g : Geometry} {L : ℕ → Option Patch} {S : ℕ → Span} {R : ℕ �
       → i < slot_offset g p.length p.slot + slot_size g (class_of g p.length)
       → copied-bytes (slot_size g source.class) f h (set_places (places g) source.mask) m.bytes h i ≡ m.bytes h i
   kept_in l p i live stands from below =
-      let w = placed_at sh l h p destination live stands HasH in
+      let w = placed_at sh l h p destination live stands has_h in
       let class : source.class ≡ class_of g p.length = alike ∙ w.0 in
       copied-out (slot_size g source.class) f h i apart_fh (set_places (places g) source.mask) m.bytes
       (λ s mem from' below'.
@@ -138,13 +138,13 @@ module _ {g : Geometry} {L : ℕ → Option Patch} {S : ℕ → Span} {R : ℕ �
             rows_all (λ q row. bit row.mask s ≡ true → Owner L T q s)
             (λ e. joined_owner s (or_cases (bit destination.mask s) (bit source.mask s) (sym (bit-bit_or destination.mask source.mask s) ∙ e)))
             (λ q apart-f apart-h row has e. owner_stays q s (λ l p live. live) (λ p stands. stays p q stands apart-f) (sh.owner q s row has e)) q;
-        classed = rows_all (λ q row. row.class < length g.sizes) (sh.classed h destination HasH) (λ q apart-f apart-h. sh.classed q);
+        classed = rows_all (λ q row. row.class < length g.sizes) (sh.classed h destination has_h) (λ q apart-f apart-h. sh.classed q);
         masked =
             rows_all (λ q row. row.mask < 2 ^ slots g row.class)
-            (or_lt (slots g destination.class) destination.mask source.mask (sh.masked h destination HasH) (subst (λ c. source.mask < 2 ^ slots g c) alike (sh.masked f source has_f)))
+            (or_lt (slots g destination.class) destination.mask source.mask (sh.masked h destination has_h) (subst (λ c. source.mask < 2 ^ slots g c) alike (sh.masked f source has_f)))
             (λ q apart-f apart-h. sh.masked q);
         homed =
-            rows_all (λ q row. (row.home < g.spans) × (T row.home ≡ Home q)) (still_home h destination HasH (λ e. apart_fh (sym e)))
+            rows_all (λ q row. (row.home < g.spans) × (T row.home ≡ Home q)) (still_home h destination has_h (λ e. apart_fh (sym e)))
             (λ q apart-f apart-h row has. still_home q row has apart-f);
         mapped = λ k q e. still_mapped k q (merged_was f h q (S k) e);
         out_rows =
@@ -186,7 +186,7 @@ module _ {g : Geometry} {L : ℕ → Option Patch} {S : ℕ → Span} {R : ℕ �
           }
       still_placed l p live w (inr apart-f) (inl at-h) =
           let in_h : Stands S p h = w.stands ∙ ap (λ z. Some z) at-h in
-          let was = placed_at sh l h p destination live in_h HasH in
+          let was = placed_at sh l h p destination live in_h has_h in
           record {
             frame = h;
             row = joined;
@@ -211,7 +211,7 @@ module _ {g : Geometry} {L : ℕ → Option Patch} {S : ℕ → Span} {R : ℕ �
       never : (l k : ℕ) (p p' : Patch) → L l ≡ Some p → L k ≡ Some p' → Stands S p f → Stands S p' h → p.slot ≡ p'.slot → ⊥
       never l k p p' lp kp sp sp' same =
           bits_apart destination.mask source.mask p.slot joins
-          (subst (λ z. bit destination.mask z ≡ true) (sym same) (placed_at sh k h p' destination kp sp' HasH).2)
+          (subst (λ z. bit destination.mask z ≡ true) (sym same) (placed_at sh k h p' destination kp sp' has_h).2)
           (placed_at sh l f p source lp sp has_f).2
 
       still_apart : (l k q : ℕ) (p p' : Patch) → L l ≡ Some p → L k ≡ Some p'
@@ -224,7 +224,7 @@ module _ {g : Geometry} {L : ℕ → Option Patch} {S : ℕ → Span} {R : ℕ �
       still_apart l k q p p' lp kp (inr a) (inr b) same = sh.apart l k q p p' lp kp a.0 b.0 same
 
       joined_owner : (s : ℕ) → (bit destination.mask s ≡ true) ⊎ (bit source.mask s ≡ true) → Owner L T h s
-      joined_owner s (inl e) = owner_stays h s (λ l p live. live) (λ p stands. stays p h stands (λ e. apart_fh (sym e))) (sh.owner h s destination HasH e)
+      joined_owner s (inl e) = owner_stays h s (λ l p live. live) (λ p stands. stays p h stands (λ e. apart_fh (sym e))) (sh.owner h s destination has_h e)
       joined_owner s (inr e) =
           let o = sh.owner f s source has_f e in
           record {
@@ -242,14 +242,14 @@ module _ {g : Geometry} {L : ℕ → Option Patch} {S : ℕ → Span} {R : ℕ �
 
       still_mapped : (k q : ℕ) → ((frame_of (S k) ≡ Some f) × (q ≡ h)) ⊎ ((frame_of (S k) ≡ Some q) × (q ≡ f → ⊥)) → (k < g.spans) × (put m.out f false q ≡ true)
       still_mapped k q (inl a) =
-          ((sh.mapped k f a.0).0, ap (put m.out f false) a.1 ∙ put_other m.out f false h (λ e. apart_fh (sym e)) ∙ out_of_row sh h destination HasH)
+          ((sh.mapped k f a.0).0, ap (put m.out f false) a.1 ∙ put_other m.out f false h (λ e. apart_fh (sym e)) ∙ out_of_row sh h destination has_h)
       still_mapped k q (inr b) =
           let old = sh.mapped k q b.0 in
           (old.0, put_other m.out f false q b.1 ∙ old.1)
 
       still_out : (q : ℕ) → is_some (put R h (Some joined) q) ≡ m.out q
       still_out =
-          put_all (λ q o. is_some o ≡ m.out q) R h (Some joined) (sym (out_of_row sh h destination HasH)) (λ q apart. sh.out_rows q)
+          put_all (λ q o. is_some o ≡ m.out q) R h (Some joined) (sym (out_of_row sh h destination has_h)) (λ q apart. sh.out_rows q)
 
       in_rest : (q : ℕ) → (q ≡ f → ⊥) → (q ≡ f) ⊎ Memᴰ q m.spare → m.out q ≡ false
       in_rest q apart (inl same) = absurd (apart same)

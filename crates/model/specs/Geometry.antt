@@ -1,5 +1,5 @@
 -- The sizes of a pool, and what follows from them: classes of slots, and addresses.
-use Rattle.std.specs.Prelude.{◌≡◌, ℕ, suc, ◌+◌, ◌*◌, ◌/◌, Bool, true, cond, ◌&&◌, leb, List, [], ◌∷◌, nat_le, nat_lt, slice_index_or, refl}
+use Rattle.std.specs.Prelude.{◌≡◌, ℕ, suc, ◌+◌, ◌*◌, ◌/◌, Bool, true, cond, ◌&&◌, List, [], ◌∷◌, nat_le, nat_lt, slice_index_or, refl}
 use Rattle.model.specs.declared.Patch.{Patch}
 
 -- the numbers rise, from above a on
@@ -24,7 +24,7 @@ pub record Geometry : Type 0 where
   pub labels : ℕ
   -- slot sizes rise from class to class, and the largest is no larger than a frame
   pub rising : rises 0 sizes ≡ true
-  pub within : leb (last_of 0 sizes) frame ≡ true
+  pub within : nat_le (last_of 0 sizes) frame ≡ true
 
 -- the desktop unit
 abbrev pub desktop : Geometry

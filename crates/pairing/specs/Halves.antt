@@ -33,4 +33,4 @@ split_next s ms = record { draws = record { state = (shuffled_places (length ms)
 pub record Order (n : ℕ) (order : List ℕ) : Type 0 where
   pub long : length order ≡ n
   pub below : (k : ℕ) → k < n → slice_index order k < n
-  pub apart : (i j : ℕ) → i < n → j < n → (i ≢ j) → slice_index order i ≢ slice_index order j
+  pub apart : (i j : ℕ) → i < n → j < n → i ≢ j → slice_index order i ≢ slice_index order j

@@ -86,15 +86,15 @@ marked_count ms (p ∷ ps) fair apart =
     let f : Bool → ℕ = λ b. cond b 1 0 in
     let one : sum_by f (slice_set before p.left true) + f (slice_index_or before p.left false) ≡ sum_by f before + 1 =
     sum_by-set f before p.left true false (omega (arith, long, fair.0.left_below)) in
-    let clear-left : f (slice_index_or before p.left false) ≡ 0 = ap f (unmarked n ps p.left fair.0.left_below apart.0) in
+    let clear_left : f (slice_index_or before p.left false) ≡ 0 = ap f (unmarked n ps p.left fair.0.left_below apart.0) in
     let two : sum_by f (slice_set (slice_set before p.left true) p.right true) + f (slice_index_or (slice_set before p.left true) p.right false)
     ≡ sum_by f (slice_set before p.left true) + 1 =
     sum_by-set f (slice_set before p.left true) p.right true false (omega (arith, long, length-set before p.left true, fair.0.right_below)) in
-    let clear-right : f (slice_index_or (slice_set before p.left true) p.right false) ≡ 0 =
+    let clear_right : f (slice_index_or (slice_set before p.left true) p.right false) ≡ 0 =
     ap f (get_or-set_other before p.left p.right true false (λ e. fair.0.differ (sym e))
     ∙ unmarked n ps p.right fair.0.right_below apart.1) in
     let rest = marked_count ms ps fair.1 apart.2 in
-    omega (arith, one, clear-left, two, clear-right, rest)
+    omega (arith, one, clear_left, two, clear_right, rest)
 
 -- there are at most half as many pairs as masks
 pub pairs_few : (ms : List ℕ) (ps : List Pair) → Lawful ms ps → length ps * 2 ≤ length ms

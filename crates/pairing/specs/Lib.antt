@@ -3,7 +3,7 @@ pub mod Search
 pub mod Halves
 pub mod Found
 pub mod Worked
-pub mod Split
 pub mod Folds
 pub mod Law
 pub mod Turns
+pub mod Split

@@ -1,5 +1,5 @@
 -- Pairs of places in a list of masks: when they are lawful, and what a proposal answers and leaves.
-use Rattle.std.specs.Prelude.{◌≡◌, ℕ, ◌/◌, ◌<◌, Bool, true, false, cond, not, ◌&&◌, ◌||◌, List, [], ◌∷◌, ◌++◌, length, drop, Some, None, Option, ◌==◌, nat_le, slice_index}
+use Rattle.std.specs.Prelude.{◌≡◌, ℕ, ◌/◌, ◌<◌, Bool, true, false, cond, not, ◌&&◌, ◌||◌, List, [], ◌∷◌, ◌++◌, length, drop, Some, None, Option, ◌==◌, ◌≢◌, nat_le, slice_index}
 use Rattle.std.specs.List.{AllByRecursion}
 use Rattle.joining.specs.Kinds.{masks_join}
 use Rattle.pairing.specs.declared.pairs.Pair.{Pair}
@@ -17,7 +17,7 @@ joins ms i j = masks_join (slice_index ms i) (slice_index ms j)
 pub record Fair (ms : List ℕ) (p : Pair) : Type 0 where
   pub left_below : p.left < length ms
   pub right_below : p.right < length ms
-  pub differ : p.left ≡ p.right → ⊥
+  pub differ : p.left ≢ p.right
   pub join : joins ms p.left p.right ≡ true
 
 -- no place stands in two pairs

@@ -1,5 +1,5 @@
 -- SplitMesher's order and passes: what they keep.
-use Rattle.std.specs.Prelude.{◌≡◌, ℕ, ◌+◌, ◌-◌, ◌/◌, ◌%◌, ◌<◌, ◌≤◌, cond, List, [], ◌∷◌, ◌++◌, length, take, ◌==◌, ◌≢◌, slice_index, slice_index_or, refl}
+use Rattle.std.specs.Prelude.{◌≡◌, ℕ, ◌+◌, ◌-◌, ◌/◌, ◌%◌, ◌<◌, ◌≤◌, cond, List, [], ◌∷◌, ◌++◌, length, take, ◌==◌, ◌≢◌, slice_index, refl}
 use Rattle.std.proofs.Common.{sym, ap, subst, ◌∙◌, ⊎_elim, arith}
 use Rattle.std.specs.List.{range_with_len, swap}
 use Rattle.std.specs.List.Sorted.{IsPermutation}
@@ -27,7 +27,7 @@ source_below : (n a b k : ℕ) → a < n → b < n → k < n → source a b k < 
 unfolding source
 source_below n a b k ha hb hk = grind (arith, nat_tests)
 
-source_apart : (a b i j : ℕ) → (i ≢ j) → source a b i ≢ source a b j
+source_apart : (a b i j : ℕ) → i ≢ j → source a b i ≢ source a b j
 unfolding source
 source_apart a b i j ne e = grind (arith, nat_tests)
 
@@ -75,9 +75,9 @@ order_shuffled n row same =
 
 -- the two places that a turn offers are places of masks, and differ
 pub record Offer (ms order : List ℕ) (j k : ℕ) : Type 0 where
-  pub left_below : slice_index_or order j 0 < length ms
-  pub right_below : slice_index_or order k 0 < length ms
-  pub differ : slice_index_or order j 0 ≡ slice_index order k → ⊥
+  pub left_below : slice_index order j < length ms
+  pub right_below : slice_index order k < length ms
+  pub differ : slice_index order j ≢ slice_index order k
 
 pub offer_places : (ms order : List ℕ) (shift j : ℕ) → Order (length ms) order → j < length ms / 2
     → Offer ms order j (length ms / 2 + (j + shift) % (length ms / 2))

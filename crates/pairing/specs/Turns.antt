@@ -34,8 +34,8 @@ pub takes_the_least : TakesTheLeast
 takes_the_least ms ps i free = chosen (least_from ms ps i (i + 1)) refl
   where
     not_taken : (q : ℕ) → takes ms ps i q ≡ false → paired q ps ≡ false → joins ms i q ≢ true
-    not_taken q no-take unpaired join =
-        both_ways (takes ms ps i q) no-take (and_from (not (paired q ps)) (joins ms i q) (not_from_false (paired q ps) unpaired) join)
+    not_taken q no_take unpaired join =
+        both_ways (takes ms ps i q) no_take (and_from (not (paired q ps)) (joins ms i q) (not_from_false (paired q ps) unpaired) join)
 
     is : (o : Option ℕ) → least_from ms ps i (i + 1) ≡ o → turn ms ps i ≡ taken ps i o
     is o e = cond-false (paired i ps) ps (taken ps i (least_from ms ps i (i + 1))) free ∙ ap (taken ps i) e

@@ -1,5 +1,5 @@
 // SplitMesher: two halves of the shuffled places, offered to one another.
-ghost use Rattle.std.specs.Prelude.{◌≡◌, ℕ, ◌+◌, ◌/◌, ◌<◌, ◌≤◌, length, take, slice_index};
+ghost use Rattle.std.specs.Prelude.{◌≡◌, ℕ, ◌/◌, ◌<◌, ◌≤◌, length, take, slice_index};
 ghost use Rattle.draws.specs.Draws.{begun};
 ghost use Rattle.pairing.specs.Halves.{shifted_turn, pass, passes, shuffled_places, split_pairs, split_next, Order};
 ghost use Rattle.pairing.specs.Found.{listed, Sound};

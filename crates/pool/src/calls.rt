@@ -1,6 +1,6 @@
 // The calls of a pool. Each one answers, fills its buffer and leaves the pool exactly as its definition says, over
 // every bank and every pairing, refusals included.
-ghost use Rattle.std.specs.Prelude.{◌≡◌, ℕ, ◌+◌, ◌<◌, ◌≤◌, Bool, true, IfOk, Ok, Result, OnOk, nat_le};
+ghost use Rattle.std.specs.Prelude.{◌≡◌, ◌+◌, ◌<◌, ◌≤◌, IfOk, Ok, Result, OnOk, nat_le};
 ghost use Rattle.refusal.specs.declared.Refusal.{Refusal as Refused};
 ghost use Rattle.bank.specs.Model.{most_frames};
 ghost use Rattle.bank.specs.Sound.{Proper};

@@ -11,7 +11,7 @@ use tables::labels::Labels;
 use tables::rows::Rows;
 use tables::spans::Spans;
 
-// A pool over any bank and any pairing. Every value of it is a pool; what it means is `state-of` it.
+// A pool over any bank and any pairing. Every value of it is a pool; what it means is `state_of` it.
 #[derive(Drop)]
 pub struct Pool<B, P> {
     bank: B,

@@ -1,5 +1,5 @@
 // The call that tidies a class: frames whose patches fill different slots are laid onto one another.
-ghost use Rattle.std.specs.Prelude.{◌≡◌, ℕ, ◌≤◌, List, map, length, take, None, slice_index, slice_index_or};
+ghost use Rattle.std.specs.Prelude.{◌≡◌, ◌≤◌, map, length, take, None, slice_index, slice_index_or};
 ghost use Rattle.model.specs.Geometry.{desktop};
 ghost use Rattle.model.specs.Mesh.{receives as row_receives, no_merge, merge as merge_step, merge_into as merging, merged, meshing, mesh as mesh_step};
 ghost use Rattle.pool.specs.View.{state_of};

@@ -1,5 +1,5 @@
 // The sizes of the desktop unit: classes of slots, and where a slot lies in its frame.
-ghost use Rattle.std.specs.Prelude.{◌≡◌, ℕ, ◌+◌, ◌*◌, ◌<◌, ◌≤◌};
+ghost use Rattle.std.specs.Prelude.{◌≡◌, ◌*◌, ◌≤◌};
 ghost use Rattle.model.specs.Geometry.{desktop, class_of as class_for, slot_size, slots as slots_of, slot_offset, address_of as address_in};
 
 use model::Patch;

@@ -1,5 +1,5 @@
 // The label table: the patch of each live label.
-ghost use Rattle.std.specs.Prelude.{◌≡◌, ◌+◌, ◌*◌, ◌≤◌, ◌&&◌, is_some, Some, None, nat_le, nat_lt};
+ghost use Rattle.std.specs.Prelude.{◌≡◌, ◌+◌, ◌*◌, ◌≤◌, ◌&&◌, is_some, None, nat_le, nat_lt};
 ghost use Rattle.bank.specs.Tables.{put};
 ghost use Rattle.model.specs.Geometry.{desktop};
 ghost use Rattle.model.specs.Calls.{tally, holds as holds_in, owner as owner_of};

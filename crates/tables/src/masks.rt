@@ -1,5 +1,5 @@
 // Masks of occupied slots: bit s is slot s.
-ghost use Rattle.std.specs.Prelude.{◌≡◌, ℕ, ◌<◌, ◌≤◌};
+ghost use Rattle.std.specs.Prelude.{◌≡◌, ◌<◌, ◌≤◌};
 ghost use Rattle.model.specs.Geometry.{desktop, places};
 ghost use Rattle.model.specs.Masks.{bit, set_bits, free_place, with_slot as with_bit, without_slot as without_bit};
 

@@ -1,5 +1,5 @@
 // The frame table: the row of each frame that is out.
-ghost use Rattle.std.specs.Prelude.{◌≡◌, ℕ, ◌<◌, ◌≤◌, true, length, take, set as set_at, replicate, is_some, IfSome, IfOk, Some, None, vec_len, nat_lt, slice_index_or};
+ghost use Rattle.std.specs.Prelude.{◌≡◌, ℕ, ◌≤◌, true, length, take, set as set_at, replicate, is_some, IfSome, IfOk, Some, None, vec_len, nat_lt, slice_index_or};
 ghost use Rattle.std.specs.Borrow.{sem, follows_if};
 ghost use Rattle.std.specs.Vec.{with_item};
 ghost use Rattle.std.specs.Option.{ghost_name_of as name_of};

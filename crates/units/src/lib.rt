@@ -1,7 +1,7 @@
 // Units: a bank, a pairing and a seed, started and given a list of calls; and two of them, side by side.
 #![tactic(auto)]
 
-ghost use Rattle.std.specs.Prelude.{◌≡◌, map, IfOk};
+ghost use Rattle.std.specs.Prelude.{map, IfOk};
 ghost use Rattle.pool.specs.View.{state_of};
 ghost use Rattle.pool.specs.Pairings.{meaning_of};
 ghost use Rattle.calls.specs.Values.{call_of, answer_of};

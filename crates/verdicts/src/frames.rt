@@ -1,5 +1,5 @@
 // Whether two pools hold the same bytes in every frame.
-ghost use Rattle.std.specs.Prelude.{◌≡◌, ◌<◌, Decides};
+ghost use Rattle.std.specs.Prelude.{◌≡◌, Decides};
 ghost use Rattle.bank.specs.Model.{most_frames};
 ghost use Rattle.pool.specs.View.{state_of};
 ghost use Rattle.verdicts.specs.Apart.{FirstApart};

@@ -1,5 +1,5 @@
 // Whether two pools read alike, label for label.
-ghost use Rattle.std.specs.Prelude.{◌≡◌, IfOk, None, Decides};
+ghost use Rattle.std.specs.Prelude.{◌≡◌, IfOk, Decides};
 ghost use Rattle.model.specs.Geometry.{desktop, longest};
 ghost use Rattle.laws.specs.Reading.{next_of, bytes_in, by_read, by_fetch, longest_read};
 ghost use Rattle.calls.specs.Values.{answer_of};
