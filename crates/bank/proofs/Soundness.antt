@@ -5,7 +5,7 @@ use mathlib.Core.List.{Memᴰ}
 use Rattle.std.specs.List.{range_with_len}
 use Rattle.refusal.specs.declared.Refusal.{Refusal}
 use Rattle.refusal.specs.declared.Refusal.TheVariants.{Edge, NotOut}
-use Rattle.std.proofs.lemmas.Bool.{cases_eq, both_ways, cond-true, le-leb}
+use Rattle.std.proofs.lemmas.Bool.{cases_eq, both_ways, cond-true, cond_both, le-leb}
 use Rattle.bank.specs.Tables.{put, peek, poke}
 use Rattle.bank.specs.Model.{BankState, granting, grant, returned, read, written}
 use Rattle.bank.specs.Sound.{Proper, Sound}
@@ -112,21 +112,16 @@ written_sound f o bs m on s =
           (cases_eq g f);
     }
 
--- a property of what a call leaves, from both ways of its test
-by_test : {A : Type 0} (P : BankState → Type 0) (b : Bool) (x y : A × BankState) → (b ≡ true → P x.1) → (b ≡ false → P y.1) → P (cond b x y).1
-by_test P true x y yes_way no_way = yes_way refl
-by_test P false x y yes_way no_way = no_way refl
-
 pub stays_sound : StaysSound
 stays_sound m s =
+    let sound : Result (Unit {0}) Refusal × BankState → Type 0 = λ r. Sound r.1 in
     record {
       after_reset = reset_sound m s.few s.opening_proper;
       after_grant = granted_sound m.spare m refl s;
-      after_give_back = λ f.
-          by_test Sound (m.out f) (Ok tt, returned f m) (Err NotOut, m) (λ on. returned_sound f m on s) (λ off. s);
+      after_give_back = λ f. cond_both (m.out f) _ _ sound (λ on. returned_sound f m on s) (λ off. s);
       after_write = λ f o bs.
-          by_test Sound (leb (o + length bs) 1024) (cond (m.out f) (Ok tt, written f o bs m) (Err NotOut, m)) (Err Edge, m)
-          (λ fits. by_test Sound (m.out f) (Ok tt, written f o bs m) (Err NotOut, m) (λ on. written_sound f o bs m on s) (λ off. s))
+          cond_both (leb (o + length bs) 1024) _ _ sound
+          (λ fits. cond_both (m.out f) _ _ sound (λ on. written_sound f o bs m on s) (λ off. s))
           (λ edge. s);
     }
 
@@ -142,7 +137,7 @@ peek-zeros row o (suc n) h =
     let rest : map row (range_with_len (o + 1) n) ≡ replicate n 0 = peek-zeros row (o + 1) n h in cc
 
 granted_zeros : (l : List ℕ) (m : BankState) (f o : ℕ) (buffer : List ℕ) → m.spare ≡ l → Sound m → (granting l m).0 ≡ Ok f → o + length buffer ≤ 1024 → read f o buffer (granting l m).1 ≡ (Ok tt, replicate (length buffer) 0)
-granted_zeros [] m f o buffer e s h fits = let z : ◌≡◌ {A = ℕ} 0 1 = cc in absurd (omega arith)
+granted_zeros [] m f o buffer e s h fits = cc
 granted_zeros (g ∷ rest) m f o buffer e s h fits =
     let same : f ≡ g = cc in
     let clear : (i : ℕ) → m.bytes f i ≡ 0 =
@@ -160,7 +155,7 @@ refused_at true x y w e inner r h = inner h
 refused_at false x y w e inner r h = refl
 
 accepted_not : {A B : Type 0} (x : A) (b y : B) (e : Refusal) → ◌≡◌ {A = Result A Refusal} (Ok x) (Err e) → b ≡ y
-accepted_not x b y e h = let z : ◌≡◌ {A = ℕ} 0 1 = cc in absurd (omega arith)
+accepted_not x b y e h = cc
 
 grant_keeping : (l : List ℕ) (m : BankState) (e : Refusal) → (granting l m).0 ≡ Err e → (granting l m).1 ≡ m
 grant_keeping [] m e h = refl

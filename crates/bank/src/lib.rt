@@ -20,6 +20,8 @@ pub const MOST_FRAMES: u32 = 64;
 // out, and the bytes of every frame. Each method answers and leaves exactly what the definition of its call says of
 // the meaning, refusals included, and nothing else is promised or seen. Where several refusals apply, the one with
 // the lowest number is answered, and a refused call changes neither the bank nor the buffer.
+// All calls take `&mut self`, questions too, and say what stays: one form for every call.
+// A frame and an offset stay two numbers: any pair of them may be passed, so a struct of both would promise nothing.
 pub trait Bank {
     ghost model: { Self → BankState };
 
@@ -58,30 +60,22 @@ pub trait Bank {
 }
 
 // A bank is sound after a reset, and what each call leaves of a sound bank is sound.
-pub fn soundness_stays() -> u8
+pub fn soundness_stays()
     ensures reset { ResetSound }
     ensures calls { StaysSound }
-{
-    0
-}
+{}
 
 // A frame that was given back is the next that is granted.
-pub fn given_back_is_next() -> u8
+pub fn given_back_is_next()
     ensures { Regrants }
-{
-    0
-}
+{}
 
 // A frame that a sound bank grants reads as zeros.
-pub fn granted_reads_zeros() -> u8
+pub fn granted_reads_zeros()
     ensures { GrantsZeros }
-{
-    0
-}
+{}
 
 // A refused call changes neither the bank nor the buffer.
-pub fn refusals_keep() -> u8
+pub fn refusals_keep()
     ensures { RefusalsKeep }
-{
-    0
-}
+{}

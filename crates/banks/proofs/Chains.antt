@@ -104,6 +104,10 @@ walk_unlinked (suc steps) n b next f v x e =
     (λ (off : (ltb x n && not (b x)) ≡ false). cond-false _ _ _ off ∙ sym (cond-false _ _ _ off))
     (cases_Bool (ltb x n && not (b x)))
 
+pub chain_unlinked : (n : ℕ) (b : ℕ → Bool) (next : ℕ → ℕ) (f v x : ℕ) → b f ≡ true → chain n b (put next f v) x ≡ chain n b next x
+unfolding chain
+chain_unlinked n b next f v x e = walk_unlinked (open_places n b) n b next f v x e
+
 -- a blocked place that is opened, linked to the walk's start and made the start itself
 pub chain_first : (n : ℕ) (b : ℕ → Bool) (next : ℕ → ℕ) (f x : ℕ) → f < n → b f ≡ true → chain n (put b f false) (put next f x) f ≡ f ∷ chain n b next x
 unfolding chain

@@ -1,35 +1,29 @@
 -- A quota's steps, from those of the bank below.
-use Rattle.std.proofs.Common.{◌≡◌, ℕ, zero, suc, ◌+◌, ◌-◌, ◌<◌, ◌≤◌, Bool, true, false, cond, ltb, List, [], ◌∷◌, length, take, Ok, Err, Result, sym, refl, ap, ◌∙◌, subst, ⊎_elim, add-one, arith, length-take}
+use Rattle.std.proofs.Common.{◌≡◌, ℕ, zero, suc, ◌+◌, ◌<◌, ◌≤◌, min, Bool, true, false, cond, ltb, List, [], ◌∷◌, length, take, Ok, Err, Result, sym, refl, ap, ◌∙◌, subst, ⊎_elim, add-one, arith}
 use mathlib.Core.List.{Memᴰ}
 use Rattle.refusal.specs.declared.Refusal.{Refusal}
 use Rattle.refusal.specs.declared.Refusal.TheVariants.{Frames, NotOut}
 use Rattle.std.proofs.lemmas.List.{take_all}
 use Rattle.std.proofs.lemmas.Bool.{cases_eq, cases_lt, cases_Bool, lt-ltb, le-ltb, cond-true, cond-false}
 use Rattle.bank.specs.Tables.{put}
-use Rattle.bank.specs.Model.{BankState, reset, granting, grant, returned, give_back}
-use Rattle.bank.specs.Sound.{Sound}
+use Rattle.bank.specs.Model.{BankState, granting, grant, returned, give_back}
+use Rattle.bank.specs.Sound.{Proper, Sound}
+use Rattle.banks.specs.declared.quota.Quota.{Quota}
 use Rattle.bank.proofs.Puts.{put_at, put_same, put_other}
 use Rattle.bank.proofs.Soundness.{proper-below, proper-take, member_take}
 use Rattle.banks.specs.Chain.{open_places}
 use Rattle.banks.proofs.Chains.{open_same, open_block, open_none}
-use Rattle.banks.specs.Quota.{limited, one_more, marks_below, Balanced, QuotaSound}
+use Rattle.banks.specs.Quota.{limited, one_more, quota_of, marks_below, Balanced, KeepsQuota, QuotaSound}
 
 -- an accepted answer is no refusal
 accepted_refused : {A : Type 0} {C : Type 0} (x : A) (e : Refusal) (m m' : BankState) → ◌≡◌ {A = Result A Refusal × BankState} (Ok x, m') (Err e, m) → C
 accepted_refused {A} x e m m' h =
-    let first : ◌≡◌ {A = Result A Refusal} (Ok x) (Err e) = ap (λ (y : Result A Refusal × BankState). y.0) h in
-    let z : ◌≡◌ {A = ℕ} 0 1 = cc in absurd (omega arith)
+    let first : ◌≡◌ {A = Result A Refusal} (Ok x) (Err e) = ap (λ (y : Result A Refusal × BankState). y.0) h in cc
 
 -- a grant below that was accepted, with one more left of the limit, and one that was refused
 granted : (limit n : ℕ) (l : List ℕ) (m m' : BankState) (f : ℕ) → ◌≡◌ {A = Result ℕ Refusal × BankState} (Ok f, m') (granting l m) → ◌≡◌ {A = Result ℕ Refusal × BankState} (Ok f, limited limit n m') (granting (take (suc n) l) (limited limit (suc n) m))
 granted limit n [] m m' f e = accepted_refused f Frames m m' e
 granted limit n (x ∷ rest) m m' f e = ap (λ (y : Result ℕ Refusal × BankState). (y.0, limited limit n y.1)) e
-
-pub limited-grant : (limit left left' : ℕ) (m m' : BankState) (f : ℕ) → 0 < left → left' ≡ left - 1 → ◌≡◌ {A = Result ℕ Refusal × BankState} (Ok f, m') (grant m) → ◌≡◌ {A = Result ℕ Refusal × BankState} (Ok f, limited limit left' m') (grant (limited limit left m))
-limited-grant limit left left' m m' f some less e =
-    let back : suc left' ≡ left = omega arith in
-    subst (λ k. ◌≡◌ {A = Result ℕ Refusal × BankState} (Ok f, limited limit left' m') (grant (limited limit k m))) back
-    (granted limit left' m.spare m m' f e)
 
 refused : (limit n : ℕ) (l : List ℕ) (m m' : BankState) (r : Refusal) → ◌≡◌ {A = Result ℕ Refusal × BankState} (Err r, m') (granting l m) → ◌≡◌ {A = Result ℕ Refusal × BankState} (Err r, limited limit n m') (granting (take n l) (limited limit n m))
 refused limit zero [] m m' r e = ap (λ (y : Result ℕ Refusal × BankState). (y.0, limited limit zero y.1)) e
@@ -82,9 +76,6 @@ limited-give_back_refused limit left m m' f r e =
     ap (λ (y : Result (Unit {0}) Refusal × BankState). (y.0, limited limit left y.1)) as_was.1 ∙
     sym (cond-false (m.out f) _ _ as_was.0)
 
-pub limited-few : (left : ℕ) (spare : List ℕ) → length spare ≤ 64 → length (take left spare) ≤ 64
-limited-few left spare short = simp length-take (omega arith)
-
 -- marks are the places that are not open
 marks_open : (n : ℕ) (b : ℕ → Bool) → marks_below n b + open_places n b ≡ n
 unfolding marks_below open_places
@@ -109,15 +100,14 @@ marks_off n b f l on =
     (cases_eq k f)) in
     omega (arith, open_block n (put b f false) f l (put_same b f false), marks_open n b, marks_open n (put b f false))
 
--- a reset bank has no frame out
-pub balanced-reset : (limit : ℕ) (m m' : BankState) → limit < 256 → m' ≡ reset m → Balanced limit limit m'
-balanced-reset limit m m' small e =
-    let out : marks_below m'.size m'.out ≡ marks_below m.size (λ f. false) = ap (λ (x : BankState). marks_below x.size x.out) e in
-    (small, omega (arith, marks_open m.size (λ f. false), open_none m.size (λ f. false) (λ k. refl)))
+-- a bank with no frame out
+pub marks_none : (n : ℕ) (b : ℕ → Bool) → b ≡ (λ f. false) → marks_below n b ≡ 0
+marks_none n b e =
+    omega (arith, marks_open n b, open_none n b (λ k. ap (λ (c : ℕ → Bool). c k) e))
 
-balance-granting : (limit left : ℕ) (l : List ℕ) (m m' : BankState) (f : ℕ) → m.spare ≡ l → 0 < left → Sound m → Balanced limit left m → ◌≡◌ {A = Result ℕ Refusal × BankState} (Ok f, m') (granting l m) → Balanced limit (left - 1) m'
-balance-granting limit left [] m m' f spare some s b e = accepted_refused f Frames m m' e
-balance-granting limit left (x ∷ rest) m m' f spare some s b e =
+balance_granting : (limit left left' : ℕ) (l : List ℕ) (m m' : BankState) (f : ℕ) → m.spare ≡ l → left' + 1 ≡ left → Sound m → Balanced limit left m → ◌≡◌ {A = Result ℕ Refusal × BankState} (Ok f, m') (granting l m) → Balanced limit left' m'
+balance_granting limit left left' [] m m' f spare less s b e = accepted_refused f Frames m m' e
+balance_granting limit left left' (x ∷ rest) m m' f spare less s b e =
     let member : Memᴰ x m.spare = subst (λ l. Memᴰ x l) (sym spare) (mathlib.Core.List.Memᴰ.head refl) in
     let low : x < m.size = proper-below m.size m.spare x s.spare_proper member in
     let more = marks_on m.size m.out x low (s.spare_in x member) in
@@ -125,10 +115,6 @@ balance-granting limit left (x ∷ rest) m m' f spare some s b e =
     ap (λ (y : Result ℕ Refusal × BankState). marks_below y.1.size y.1.out) e in
     let small = b.0 in
     let sum = b.1 in (small, omega arith)
-
-pub balance-grant : (limit left left' : ℕ) (m m' : BankState) (f : ℕ) → 0 < left → left' ≡ left - 1 → ◌≡◌ {A = Result ℕ Refusal × BankState} (Ok f, m') (grant m) → Sound m → Balanced limit left m → Balanced limit left' m'
-balance-grant limit left left' m m' f some less e s b =
-    subst (λ k. Balanced limit k m') (sym less) (balance-granting limit left m.spare m m' f refl some s b e)
 
 balance_refusing : (limit left : ℕ) (l : List ℕ) (m m' : BankState) (r : Refusal) → ◌≡◌ {A = Result ℕ Refusal × BankState} (Err r, m') (granting l m) → Balanced limit left m → Balanced limit left m'
 balance_refusing limit left [] m m' r e b =
@@ -138,21 +124,55 @@ balance_refusing limit left (x ∷ rest) m m' r e b = accepted_refused x r m' _ 
 pub balance-grant_refused : (limit left : ℕ) (m m' : BankState) (r : Refusal) → ◌≡◌ {A = Result ℕ Refusal × BankState} (Err r, m') (grant m) → Balanced limit left m → Balanced limit left m'
 balance-grant_refused limit left m m' r e b = balance_refusing limit left m.spare m m' r e b
 
-pub balance-give_back : (limit left left' : ℕ) (m m' : BankState) (f : ℕ) → left' ≡ one_more left → ◌≡◌ {A = Result (Unit {0}) Refusal × BankState} (Ok tt, m') (give_back f m) → Sound m → Balanced limit left m → Balanced limit left' m'
-balance-give_back limit left left' m m' f more e s b =
+pub balance_give_back : (limit left left' : ℕ) (m m' : BankState) (f : ℕ) → left' ≡ min (left + 1) 255 → ◌≡◌ {A = Result (Unit {0}) Refusal × BankState} (Ok tt, m') (give_back f m) → Sound m → Balanced limit left m → Balanced limit left' m'
+balance_give_back limit left left' m m' f more e s b =
     let back = came_back m m' f e in
     let less = marks_off m.size m.out f (s.out_below f back.0) back.0 in
     let small = b.0 in
     let sum = b.1 in
-    let room : left < 255 = omega arith in
-    let up : one_more left ≡ left + 1 = cond-true (ltb left 255) (left + 1) left (lt-ltb left 255 room) in
     let out : marks_below m'.size m'.out ≡ marks_below m.size (put m.out f false) =
     ap (λ (x : BankState). marks_below x.size x.out) back.1 in
     (small, omega arith)
 
+pub balance-give_back : (limit left left' : ℕ) (m m' : BankState) (f : ℕ) → left' ≡ one_more left → ◌≡◌ {A = Result (Unit {0}) Refusal × BankState} (Ok tt, m') (give_back f m) → Sound m → Balanced limit left m → Balanced limit left' m'
+balance-give_back limit left left' m m' f more e s b =
+    let small = b.0 in
+    let sum = b.1 in
+    let capped : one_more left ≡ min (left + 1) 255 =
+    ⊎_elim
+    (λ (low : left < 255). cond-true (ltb left 255) (left + 1) left (lt-ltb left 255 low) ∙ (let e : left + 1 ≡ min (left + 1) 255 = omega arith in e))
+    (λ (high : 255 ≤ left). cond-false (ltb left 255) (left + 1) left (le-ltb left 255 high) ∙ (let e : left ≡ min (left + 1) 255 = omega arith in e))
+    (cases_lt left 255) in
+    balance_give_back limit left left' m m' f (more ∙ capped) e s b
+
 pub balance-give_back_refused : (limit left : ℕ) (m m' : BankState) (f : ℕ) (r : Refusal) → ◌≡◌ {A = Result (Unit {0}) Refusal × BankState} (Err r, m') (give_back f m) → Balanced limit left m → Balanced limit left m'
 balance-give_back_refused limit left m m' f r e b =
     subst (Balanced limit left) (sym (ap (λ (y : Result (Unit {0}) Refusal × BankState). y.1) (stayed m m' f r e).1)) b
+
+-- a quota after a grant below that was accepted: what it answers, and what it keeps
+pub quota_granted : {B : Type 0} (model : B → BankState) (s t : Quota B) (f : ℕ) → t.limit ≡ s.limit → t.left + 1 ≡ s.left → ◌≡◌ {A = Result ℕ Refusal × BankState} (Ok f, model t.below) (grant (model s.below)) → ◌≡◌ {A = Result ℕ Refusal × BankState} (Ok f, quota_of model t) (grant (quota_of model s))
+quota_granted model s t f same less e =
+    let more : suc t.left ≡ s.left = omega arith in
+    ap {B = Result ℕ Refusal × BankState} (λ k. (Ok f, limited k t.left (model t.below))) same ∙
+    subst (λ k. ◌≡◌ {A = Result ℕ Refusal × BankState} (Ok f, limited s.limit t.left (model t.below)) (grant (limited s.limit k (model s.below)))) more
+    (granted s.limit t.left (model s.below).spare (model s.below) (model t.below) f e)
+
+pub quota_grant : {B : Type 0} (model : B → BankState) (s t : Quota B) (f : ℕ) → t.limit ≡ s.limit → t.left + 1 ≡ s.left → ◌≡◌ {A = Result ℕ Refusal × BankState} (Ok f, model t.below) (grant (model s.below)) → KeepsQuota model s t
+quota_grant model s t f same less e =
+    record {
+      same_limit = same;
+      balance = λ sound b. subst (λ k. Balanced k t.left (model t.below)) (sym same)
+          (balance_granting s.limit s.left t.left (model s.below).spare (model s.below) (model t.below) f refl less sound b e);
+    }
+
+-- what a quota keeps when a frame came back
+pub quota_give_back : {B : Type 0} (model : B → BankState) (s : Quota B) (below : B) (left f : ℕ) → left ≡ min (s.left + 1) 255 → ◌≡◌ {A = Result (Unit {0}) Refusal × BankState} (Ok tt, model below) (give_back f (model s.below)) → KeepsQuota model s (record { below = below; limit = s.limit; left = left })
+quota_give_back model s below left f more e =
+    record { same_limit = refl; balance = balance_give_back s.limit s.left left (model s.below) (model below) f more e }
+
+-- the front of an opening list is proper, too
+pub proper_front : (n k : ℕ) (fs : List ℕ) → Proper n fs → Proper n (take k fs)
+proper_front n k fs p = proper-take n k fs p
 
 pub quota_sound : QuotaSound
 quota_sound limit left m s =

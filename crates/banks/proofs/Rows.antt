@@ -1,9 +1,8 @@
 -- A row that is read and written byte by byte.
-use Rattle.std.proofs.Common.{◌≡◌, ℕ, ◌+◌, ◌-◌, ◌<◌, ◌≤◌, List, [], map, length, get_or, take, set, sym, refl, ap, ◌∙◌, ⊎_elim, arith}
+use Rattle.std.proofs.Common.{◌≡◌, ℕ, ◌+◌, ◌-◌, ◌<◌, ◌≤◌, List, map, length, get_or, take, sym, refl, ap, ◌∙◌, ⊎_elim, arith}
 use mathlib.Core.Path.{fun_ext}
 use Rattle.std.specs.List.{range_with_len}
-use Rattle.std.proofs.lemmas.List.{length-take-le, take_all, get_or-take, get_or_default, same_lists}
-use Rattle.std.proofs.lemmas.List.Edits.{fill_by_more}
+use Rattle.std.proofs.lemmas.List.{length-take-le, get_or-take, get_or_default, same_lists}
 use Rattle.std.proofs.lemmas.List.FromFn.{length-map-range_with_len, get_or-map-range_with_len}
 use Rattle.std.proofs.lemmas.Bool.{cases_eq, cases_lt}
 use Rattle.bank.specs.Tables.{put, peek, poke}
@@ -11,9 +10,6 @@ use Rattle.bank.proofs.Puts.{put_at, put_other}
 use Rattle.banks.proofs.Stretches.{poke-within, poke-before, poke-after}
 
 -- a stretch that is written byte by byte
-pub poke-none : (row : ℕ → ℕ) (o : ℕ) → poke row o [] ≡ row
-poke-none row o = fun_ext (λ q. ⊎_elim (λ (b : q < o). poke-before row o [] q b) (λ (a : o ≤ q). poke-after row o [] q (omega arith)) (cases_lt q o))
-
 pub poke_more : (row : ℕ → ℕ) (o : ℕ) (bs : List ℕ) (i : ℕ) → i < length bs → poke row o (take (i + 1) bs) ≡ put (poke row o (take i bs)) (o + i) (get_or bs i 0)
 poke_more row o bs i l =
     let short : length (take i bs) ≡ i = length-take-le i bs (omega arith) in
@@ -48,15 +44,15 @@ peek_all row o n xs e h =
     let low : k < n = omega arith in
     get_or_default xs k d 0 l ∙ (h k low ∙ sym (get_or-map-range_with_len row o n k (o + k) d low refl)))
 
--- one byte more of a stretch that is read byte by byte
-pub read_more : (row : ℕ → ℕ) (o : ℕ) (xs : List ℕ) (i v : ℕ) → i < length xs → v ≡ row (o + i) → ((k : ℕ) → k < i → get_or xs k 0 ≡ row (o + k)) → (k : ℕ) → k < i + 1 → get_or (set xs i v) k 0 ≡ row (o + k)
-read_more row o xs i v l e h k low =
-    ap (λ b. get_or (set xs i b) k 0) e ∙ fill_by_more (λ k. row (o + k)) xs i 0 l h k low
-
--- and of one that is written
+-- one byte more of a stretch that is written byte by byte
 pub written_more : (row before after : ℕ → ℕ) (o : ℕ) (bs : List ℕ) (i v : ℕ) → before ≡ poke row o (take i bs) → i < length bs → v ≡ get_or bs i 0 → after ≡ put before (o + i) v → after ≡ poke row o (take (i + 1) bs)
 written_more row before after o bs i v e l is step =
     step ∙ (ap (λ r. put r (o + i) v) e ∙ (ap (put (poke row o (take i bs)) (o + i)) is ∙ sym (poke_more row o bs i l)))
 
-pub written_all : (row after : ℕ → ℕ) (o : ℕ) (bs : List ℕ) (i : ℕ) → after ≡ poke row o (take i bs) → length bs ≤ i → after ≡ poke row o bs
-written_all row after o bs i e h = e ∙ ap (poke row o) (take_all i bs h)
+-- the same, by the place that is written
+pub written_at : (row before after : ℕ → ℕ) (o : ℕ) (bs : List ℕ) (p v : ℕ) → o ≤ p → p < o + length bs → before ≡ poke row o (take (p - o) bs) → v ≡ get_or bs (p - o) 0 → after ≡ put before p v → after ≡ poke row o (take (p + 1 - o) bs)
+written_at row before after o bs p v low high e is step =
+    let here : p ≡ o + (p - o) = omega arith in
+    let more : p - o + 1 ≡ p + 1 - o = omega arith in
+    written_more row before after o bs (p - o) v e (omega arith) is (step ∙ ap (λ k. put before k v) here) ∙
+    ap (λ k. poke row o (take k bs)) more

@@ -3,7 +3,7 @@ use Rattle.std.proofs.Common.{◌≡◌, ℕ, zero, suc, ◌+◌, ◌-◌, ◌*�
 use mathlib.Core.Path.{fun_ext}
 use borrow.Rule.Slice.PartMut.{put_mid}
 use Rattle.std.specs.List.{range_with_len}
-use Rattle.std.proofs.lemmas.List.{length-replicate, length-append, length-take, length-drop, get_or-replicate, get_or_past, drop_more, drop-drop, places}
+use Rattle.std.proofs.lemmas.List.{length-replicate, get_or-replicate, get_or_past, drop_more, drop-drop, places}
 use Rattle.std.proofs.lemmas.Bool.{cases_eq, cases_lt, lt-ltb, le-ltb, le-leb, lt-leb, leb-true, and_from, and_parts, and_left, and_right, cond-true, cond-false, cond_both, eq-eqb, ne_eqb}
 use Rattle.bank.specs.Tables.{put, peek, poke}
 use Rattle.banks.specs.Memory.{whole_frames, lane_frames, cleared, framed, place}
@@ -119,6 +119,12 @@ framed-clear_all n byte = fun_ext (λ f. fun_ext (λ i. cleared f i))
         (λ (l : n ≤ f). framed_beyond n (poke byte 0 (zeros (place n 0))) f i l)
         (cases_lt f n)
 
+-- a byte within a stretch of zeros
+pub zero_within : (before after : ℕ → ℕ) (count k : ℕ) → after ≡ poke before 0 (replicate count 0) → k < count → after k ≡ 0
+zero_within before after count k e l =
+    let long = length-zeros count in
+    ap (λ (row : ℕ → ℕ). row k) e ∙ (poke-within before 0 (zeros count) k (omega arith) (omega arith) ∙ get_or-zeros count (k - 0))
+
 -- a stretch of the row, within one frame, is a stretch of that frame's bytes
 pub framed-peek : (n : ℕ) (byte : ℕ → ℕ) (f o k : ℕ) → f < n → o + k ≤ 1024 → peek byte (place f o) k ≡ peek (framed n byte f) o k
 unfolding peek
@@ -170,10 +176,6 @@ part_bytes xs bs ys o k h e size =
     get_or_poked xs bs (put_mid o k xs ys) o h
     (ap (λ l. take o xs ++ (l ++ drop k (drop o xs))) e ∙
     ap (λ l. take o xs ++ (bs ++ l)) (ap (λ m. drop m (drop o xs)) size ∙ drop-drop (length bs) o xs))
-
-pub part_length : (xs bs ys : List ℕ) (o k : ℕ) → o + length bs ≤ length xs → ys ≡ bs → k ≡ length bs → length (put_mid o k xs ys) ≡ length xs
-part_length xs bs ys o k h e size =
-    let same : length ys ≡ length bs = ap length e in simp (length-append, length-take, length-drop) (omega arith)
 
 pub whole-few : (n : ℕ) → whole_frames n ≤ 64
 whole-few n =

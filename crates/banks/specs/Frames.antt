@@ -1,10 +1,12 @@
 -- What a bank means that keeps its frames end to end in a store of bytes.
-use Rattle.std.specs.Prelude.{◌≡◌, ℕ, ◌+◌, ◌*◌, ◌/◌, ◌%◌, ◌<◌, false, List, length, slice_index}
+use Rattle.std.specs.Prelude.{◌≡◌, ℕ, ◌+◌, ◌*◌, ◌/◌, ◌%◌, ◌<◌, false, cond, List, length, Ok, Err, Result, nat_le, slice_index}
 use Rattle.std.specs.List.{range_with_len}
+use Rattle.refusal.specs.declared.Refusal.{Refusal}
+use Rattle.refusal.specs.declared.Refusal.TheVariants.{Edge, NotOut}
 use Rattle.bank.specs.Model.{BankState, frame_bytes}
 use Rattle.banks.specs.declared.frames.FrameBank.{FrameBank}
 use Rattle.banks.specs.declared.spares.Spares.{Spares}
-use Rattle.banks.specs.Memory.{whole_frames, lane_frames, woven, framed}
+use Rattle.banks.specs.Memory.{whole_frames, lane_frames, woven, place, framed}
 use Rattle.banks.specs.Spares.{marked, listed}
 
 -- the bank of n frames whose bytes lie end to end in a store; it opens with all frames, in rising order
@@ -15,6 +17,10 @@ bank_of n byte s =
 -- what a bank over a store means, by how many frames the store has and the byte at each of its places
 abbrev pub frame_bank : {S : Type 0} → (S → ℕ) → (S → ℕ → ℕ) → FrameBank S → BankState
 frame_bank frames byte b = bank_of (frames b.store) (byte b.store) b.spares
+
+-- where k bytes of the frame f lie from the offset o on, with n frames end to end, and the refusals of such a stretch
+abbrev pub placed : ℕ → Spares → ℕ → ℕ → ℕ → Result ℕ Refusal
+placed n s f o k = cond (nat_le (o + k) frame_bytes) (cond (marked n s f) (Ok (place f o)) (Err NotOut)) (Err Edge)
 
 -- the bank of n frames right after a reset
 abbrev pub fresh : ℕ → BankState

@@ -1,28 +1,13 @@
 // The flat bank: frame f lies at bytes 1,024 × f onward of one memory.
-ghost use Rattle.std.specs.Prelude.{◌≡◌, ◌*◌, ◌≤◌, length, slice_index};
+ghost use Rattle.std.specs.Prelude.{◌≡◌, length, slice_index};
 ghost use Rattle.bank.specs.Sound.{Sound};
 ghost use Rattle.banks.specs.Memory.{whole_frames, checked, cleared};
 ghost use Rattle.banks.specs.Frames.{flat_bank, fresh, FlatEndToEnd};
 
-use super::frames::{FrameBank, opened};
-use super::spares::Spares;
+use super::count::FrameCount;
+use super::frames::FrameBank;
 use super::store::Store;
-use bank::{FRAME_BYTES, MOST_FRAMES};
 use refusal::Refusal;
-
-// How many frames a memory of so many bytes has.
-pub(super) fn whole_frames(bytes: usize) -> u32
-    ensures value { result ≡ whole_frames bytes }
-    ensures few { result ≤ 64 }
-    ensures within { 1024 * result ≤ bytes }
-{
-    let frames = bytes / FRAME_BYTES as usize;
-    if bytes % FRAME_BYTES as usize == 0 && frames <= MOST_FRAMES as usize {
-        frames as u32
-    } else {
-        0
-    }
-}
 
 // One memory that a caller lends.
 #[derive(Drop)]
@@ -35,8 +20,8 @@ impl Store for FlatMemory<'_> {
 
     ghost byte = { λ s k. slice_index s.memory.now k };
 
-    fn frames(&self) -> u32 {
-        whole_frames(self.memory.len())
+    fn frames(&self) -> FrameCount {
+        FrameCount::of_bytes(self.memory.len())
     }
 
     fn read(&self, at: usize, buffer: &mut [u8]) {
@@ -61,11 +46,7 @@ impl<'a> FlatBank<'a> {
     pub fn check(memory: &[u8]) -> Result<(), Refusal>
         ensures { result ≡ checked (whole_frames (length memory.now)) }
     {
-        if whole_frames(memory.len()) == 0 {
-            Err(Refusal::Row)
-        } else {
-            Ok(())
-        }
+        FrameCount::of_bytes(memory.len()).check()
     }
 
     // The bank over a memory, which is cleared. A memory that does not pass the check makes a bank with no frames, and
@@ -75,23 +56,12 @@ impl<'a> FlatBank<'a> {
         ensures model { flat_bank result.store.memory.now result.spares ≡ fresh (whole_frames (length memory.old)) }
         ensures sound { Sound (flat_bank result.store.memory.now result.spares) }
     {
-        clear_if(whole_frames(memory.len()), memory);
-        opened(FlatMemory { memory })
-    }
-}
-
-// Clears a memory that has frames.
-pub(super) fn clear_if(frames: u32, memory: &mut [u8])
-    ensures { memory.new ≡ cleared frames memory.old }
-{
-    if frames > 0 {
-        memory.fill(0);
+        FrameCount::of_bytes(memory.len()).clear(memory);
+        FrameBank::opened(FlatMemory { memory })
     }
 }
 
 // The memory of a flat bank is its frames end to end, after any call.
-pub fn flat_is_end_to_end() -> u8
+pub fn flat_is_end_to_end()
     ensures { FlatEndToEnd }
-{
-    0
-}
+{}

@@ -5,22 +5,19 @@ ghost use Rattle.bank.specs.Tables.{put};
 ghost use Rattle.banks.specs.Memory.{lane_frames, woven, checked, cleared};
 ghost use Rattle.banks.specs.Frames.{lane_bank, fresh, LanesEndToEnd};
 
-use super::flat::{clear_if, whole_frames};
-use super::frames::{FrameBank, opened};
+use super::count::FrameCount;
+use super::frames::FrameBank;
 use super::store::Store;
 use refusal::Refusal;
 
-// How many frames two memories of so many bytes have.
-fn lane_frames(first: usize, second: usize) -> u32
-    ensures value { result ≡ lane_frames first second }
-    ensures few { result ≤ 64 }
+// How many frames two memories have together.
+fn lane_frames(first: &[u8], second: &[u8]) -> FrameCount
+    ensures { result.frames ≡ lane_frames (length first.now) (length second.now) }
 {
-    if first != second {
-        return 0;
-    }
-    match first.checked_add(second) {
-        Some(bytes) => whole_frames(bytes),
-        None => 0,
+    if first.len() == second.len() {
+        FrameCount::of_bytes(first.len() + second.len())
+    } else {
+        FrameCount::none()
     }
 }
 
@@ -64,25 +61,25 @@ impl Store for LaneMemory<'_> {
 
     ghost byte = { λ s. woven s.first.now s.second.now };
 
-    fn frames(&self) -> u32 {
-        lane_frames(self.first.len(), self.second.len())
+    fn frames(&self) -> FrameCount {
+        lane_frames(self.first, self.second)
     }
 
     fn read(&self, at: usize, buffer: &mut [u8]) {
-        for i in 0..buffer.len() {
-            buffer[i] = self.get(at + i);
+        for (i, byte) in buffer.iter_mut().enumerate() {
+            *byte = self.get(at + i);
         }
     }
 
     fn write(&mut self, at: usize, buffer: &[u8]) {
-        for i in 0..buffer.len() {
-            self.set(at + i, buffer[i]);
+        for (i, byte) in buffer.iter().enumerate() {
+            self.set(at + i, *byte);
         }
     }
 
     fn clear(&mut self, at: usize, count: usize) {
-        for i in 0..count {
-            self.set(at + i, 0);
+        for place in at..at + count {
+            self.set(place, 0);
         }
     }
 }
@@ -94,11 +91,7 @@ impl<'a> LaneBank<'a> {
     pub fn check(first: &[u8], second: &[u8]) -> Result<(), Refusal>
         ensures { result ≡ checked (lane_frames (length first.now) (length second.now)) }
     {
-        if lane_frames(first.len(), second.len()) == 0 {
-            Err(Refusal::Row)
-        } else {
-            Ok(())
-        }
+        lane_frames(first, second).check()
     }
 
     // The bank over two memories, which are cleared. Memories that do not pass the check make a bank with no frames,
@@ -109,16 +102,14 @@ impl<'a> LaneBank<'a> {
         ensures model { lane_bank result.store.first.now result.store.second.now result.spares ≡ fresh (lane_frames (length first.old) (length second.old)) }
         ensures sound { Sound (lane_bank result.store.first.now result.store.second.now result.spares) }
     {
-        let frames = lane_frames(first.len(), second.len());
-        clear_if(frames, first);
-        clear_if(frames, second);
-        opened(LaneMemory { first, second })
+        let frames = lane_frames(first, second);
+        frames.clear(first);
+        frames.clear(second);
+        FrameBank::opened(LaneMemory { first, second })
     }
 }
 
 // The memories of a lane bank are its frames' lanes, after any call.
-pub fn lanes_are_end_to_end() -> u8
+pub fn lanes_are_end_to_end()
     ensures { LanesEndToEnd }
-{
-    0
-}
+{}

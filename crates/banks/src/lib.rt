@@ -1,6 +1,7 @@
 // The banks: flat and lane over a caller's memory, and the quota over any other bank.
 #![tactic(auto)]
 
+mod count;
 mod flat;
 mod frames;
 mod lane;

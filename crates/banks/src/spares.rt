@@ -1,19 +1,23 @@
 // Which frames are out, and the order of the spare ones.
-ghost use Rattle.std.specs.Prelude.{◌≡◌, ℕ, ◌+◌, ◌<◌, ◌≤◌, true, false, ◌∷◌, Ok, slice_index, slice_set};
+ghost use Rattle.std.specs.Prelude.{◌≡◌, ℕ, ◌+◌, ◌<◌, ◌≤◌, true, false, ◌∷◌, Ok, Some, slice_index_or};
 ghost use Rattle.std.specs.List.{range_with_len};
 ghost use Rattle.bank.specs.Tables.{put};
-ghost use Rattle.banks.specs.Spares.{marked, link, listed, taken};
+ghost use Rattle.banks.specs.Spares.{marked, listed, taken};
 
+use super::count::FrameCount;
 use refusal::Refusal;
 
-// The spare frames as a list of links: `head` is the first spare frame, and `next` of a spare frame the one after it.
-// The list ends at a number that is no frame, or at a frame that is out or was listed before. So every value of these
-// fields means some list of frames, none of them out and none twice, and nothing has to be remembered about them.
+// The spare frames as a list of links: `head` is the first spare frame, and the link of a spare frame is the one after
+// it. A frame that is out has no link. The list ends at a number that is no frame, or at a frame that is out or was
+// listed before. So every value of these fields means some list of frames, none of them out and none twice, and nothing
+// has to be remembered about them.
+// They are places in an array: of these links every value is a list, for any number of frames, and a stack of numbers has
+// values with repeats, and ends at a number that it would have to keep.
+// `head` is no `Option`: one opening list serves banks of every size, and ends where its numbers pass the bank's.
 #[derive(Drop)]
 pub struct Spares {
     head: u8,
-    next: [u8; 64],
-    out: [bool; 64],
+    links: [Option<u8>; 64],
 }
 
 impl Spares {
@@ -24,76 +28,51 @@ impl Spares {
     {
         Spares {
             head: 0,
-            next: rising(),
-            out: [false; 64],
+            links: rising(),
         }
     }
 
     // Whether a frame is out, of a bank with so many frames.
-    pub fn is_out(&self, frames: u32, frame: u32) -> bool
-        requires { frames ≤ 64 }
-        ensures { result ≡ marked frames self.now frame }
+    pub fn is_out(&self, count: FrameCount, frame: u32) -> bool
+        ensures { result ≡ marked count.frames self.now frame }
     {
-        frame < frames && self.out[frame as usize]
-    }
-
-    // The link of a frame.
-    fn after(&self, spare: u8) -> u8
-        requires { spare < 64 }
-        ensures { result ≡ link self.now spare }
-    {
-        self.next[spare as usize]
-    }
-
-    // Marks a frame out.
-    fn mark_out(&mut self, frame: u8)
-        requires { frame < 64 }
-        ensures { self.new ≡ record { head = self.old.head; next = self.old.next; out = slice_set self.old.out frame true } }
-    {
-        self.out[frame as usize] = true;
+        frame < count.frames && self.links[frame as usize].is_none()
     }
 
     // Takes the first spare frame and marks it out.
-    pub fn take(&mut self, frames: u32) -> Result<u32, Refusal>
-        requires { frames ≤ 64 }
-        ensures step { (result, listed frames self.new, marked frames self.new) ≡ taken (listed frames self.old) (marked frames self.old) }
-        ensures below { (f : ℕ) → result ≡ Ok f → f < frames }
+    #[tactic(auto, using(crate::proofs::Steps::taken_past, crate::proofs::Steps::taken_out, crate::proofs::Steps::taken_next))]
+    pub fn take(&mut self, count: FrameCount) -> Result<u32, Refusal>
+        ensures step { (result, listed count.frames self.new, marked count.frames self.new) ≡ taken (listed count.frames self.old) (marked count.frames self.old) }
+        ensures below { (f : ℕ) → result ≡ Ok f → f < count.frames }
     {
         let head = self.head;
-        let frame = head as u32;
-        if frame >= frames {
+        let frame = u32::from(head);
+        if frame >= count.frames {
             return Err(Refusal::Frames);
         }
-        if self.out[head as usize] {
+        // By `let .. else`, which the check proves alone: with `ok_or(..)?` only a proof by hand closes, which was tried.
+        let Some(next) = self.links[head as usize] else {
             return Err(Refusal::Frames);
-        }
-        let next = self.after(head);
-        self.mark_out(head);
+        };
+        self.links[head as usize] = None;
         self.head = next;
         Ok(frame)
     }
 
-    // Takes the mark from a frame that is out, and puts it first in the list.
-    pub fn put_first(&mut self, frames: u32, frame: u32)
-        requires few { frames ≤ 64 }
-        requires out { marked frames self.old frame ≡ true }
-        ensures list { listed frames self.new ≡ frame ∷ listed frames self.old }
-        ensures marks { marked frames self.new ≡ put (marked frames self.old) frame false }
+    // Puts a frame first in the list. In a bank where it was out, it is no more.
+    pub fn put_first(&mut self, frame: u32)
+        requires { frame < 64 }
+        ensures list { (n : ℕ) → marked n self.old frame ≡ true → listed n self.new ≡ frame ∷ listed n self.old }
+        ensures marks { (n : ℕ) → marked n self.old frame ≡ true → marked n self.new ≡ put (marked n self.old) frame false }
     {
-        let head = self.head;
-        self.next[frame as usize] = head;
-        self.out[frame as usize] = false;
+        self.links[frame as usize] = Some(self.head);
         self.head = frame as u8;
     }
 }
 
 // The links of the rising list: after each frame comes the next number.
-fn rising() -> [u8; 64]
-    ensures { (k : ℕ) → k < 64 → slice_index result k ≡ k + 1 }
+fn rising() -> [Option<u8>; 64]
+    ensures { (k : ℕ) → k < 64 → slice_index_or result k (Some 0) ≡ Some (k + 1) }
 {
-    let mut next = [0; 64];
-    for i in 0..64u8 {
-        next[i as usize] = i + 1;
-    }
-    next
+    std::array::from_fn(|frame| Some(frame as u8 + 1))
 }

@@ -2,7 +2,10 @@
 ghost use Rattle.std.specs.Prelude.{◌≡◌, ℕ, ◌+◌, ◌*◌, ◌≤◌, length, replicate};
 ghost use Rattle.bank.specs.Tables.{peek, poke};
 
-// A row of bytes that frames lie in, end to end.
+use super::count::FrameCount;
+
+// A row of bytes that frames lie in, end to end. Three calls ask that a stretch lies within it: that is a fact of their
+// numbers and of the store together, so no struct of the numbers alone can have it.
 pub trait Store {
     // how many frames it has
     ghost frames: { Self → ℕ };
@@ -10,9 +13,8 @@ pub trait Store {
     // the byte at each place
     ghost byte: { Self → ℕ → ℕ };
 
-    fn frames(&self) -> u32
-        ensures value { result ≡ frames self.now }
-        ensures few { result ≤ 64 };
+    fn frames(&self) -> FrameCount
+        ensures { result.frames ≡ frames self.now };
 
     // Fills the buffer with the bytes from `at` on.
     fn read(&self, at: usize, buffer: &mut [u8])

@@ -13,8 +13,7 @@ use refusal::Refusal;
 pub fn first_grant(memory: &mut [u8]) -> Result<u32, Refusal>
     ensures { result ≡ (if nat_eq (whole_frames (length memory.old)) 0 then Err Frames else Ok 0) }
 {
-    let mut bank = FlatBank::new(memory);
-    bank.grant()
+    FlatBank::new(memory).grant()
 }
 
 #[cfg(test)]
@@ -25,7 +24,7 @@ mod tests {
     use std::process::Abort;
 
     // A call on a bank: a read or a write has a frame, an offset and how many bytes, and a write the byte that it
-    // puts everywhere.
+    // puts everywhere. It is no closure, since one table of calls is made on banks of several types.
     #[derive(Clone, Copy)]
     enum Call {
         Grant,
@@ -36,28 +35,22 @@ mod tests {
         Size,
     }
 
-    // What a call answers: a number for a grant, for the size, and for a read the largest byte that it read.
+    // What a call answers: a number for a grant, for the size, and for a read the largest byte that it read; 0 for the
+    // others, which answer nothing.
     fn answer<B: Bank>(bank: &mut B, call: Call) -> Result<u32, Refusal> {
         match call {
             Call::Grant => bank.grant(),
-            Call::GiveBack(frame) => match bank.give_back(frame) {
-                Ok(()) => Ok(0),
-                Err(refusal) => Err(refusal),
-            },
+            Call::GiveBack(frame) => bank.give_back(frame).map(|()| 0),
             Call::Read(frame, offset, bytes) => {
                 let mut buffer = [0u8; 2048];
                 let part = &mut buffer[0..bytes.min(2048)];
-                match bank.read(frame, offset, part) {
-                    Ok(()) => Ok(u32::from(part.iter().copied().max().unwrap_or(0))),
-                    Err(refusal) => Err(refusal),
-                }
+                bank.read(frame, offset, part)?;
+                Ok(part.iter().copied().max().map_or(0, u32::from))
             }
             Call::Write(frame, offset, bytes, value) => {
                 let buffer = [value; 2048];
-                match bank.write(frame, offset, &buffer[0..bytes.min(2048)]) {
-                    Ok(()) => Ok(0),
-                    Err(refusal) => Err(refusal),
-                }
+                bank.write(frame, offset, &buffer[0..bytes.min(2048)])
+                    .map(|()| 0)
             }
             Call::Reset => {
                 bank.reset();

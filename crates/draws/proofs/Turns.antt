@@ -1,8 +1,8 @@
 -- One turn of a shuffle, and that a shuffle loses nothing.
-use Rattle.std.proofs.Common.{◌≡◌, ℕ, zero, suc, ◌+◌, ◌-◌, ◌%◌, ◌<◌, ◌≤◌, List, [], ◌∷◌, length, refl, ap, ◌∙◌, arith}
+use Rattle.std.proofs.Common.{◌≡◌, ℕ, zero, suc, ◌+◌, ◌-◌, ◌%◌, ◌<◌, ◌≤◌, List, length, refl, ap, ◌∙◌, arith}
 use Rattle.std.specs.List.{swap}
 use Rattle.std.specs.List.Sorted.{IsPermutation}
-use Rattle.std.proofs.lemmas.List.Sorted.{IsPermutation-refl, IsPermutation-trans, length_permutation}
+use Rattle.std.proofs.lemmas.List.Sorted.{IsPermutation-refl, IsPermutation-swap, IsPermutation-trans, length_permutation}
 use Rattle.std.proofs.lemmas.Nat.{mod_below}
 use Rattle.draws.specs.Draws.{next}
 use Rattle.draws.specs.Shuffle.{shuffled, shuffled_from}
@@ -22,8 +22,7 @@ shuffled_from_same zero row state h = IsPermutation-refl row
 shuffled_from_same (suc i) row state h =
     let j : ℕ = next state % (suc i + 1) in
     let below : j < suc i + 1 = mod_below (next state) (suc i + 1) (omega arith) in
-    let one : IsPermutation row (swap row (suc i) j) =
-    record { moves = (suc i, j) ∷ []; below = (omega arith, omega arith, tt); is = refl } in
+    let one = IsPermutation-swap row (swap row (suc i) j) (suc i) j (omega arith) (omega arith) refl in
     let long = length_permutation row (swap row (suc i) j) one in
     IsPermutation-trans row (swap row (suc i) j) (shuffled_from i (swap row (suc i) j) (next state)).0 one
     (shuffled_from_same i (swap row (suc i) j) (next state) (omega (arith, long)))

@@ -26,6 +26,7 @@ impl Draws {
     }
 
     // One draw: the new state, which is the number drawn. A state that is not zero stays so.
+    #[tactic(auto, using(crate::proofs::Nonzero::next_nonzero), unfolding(crate::specs::Draws::next))]
     pub fn draw(&mut self) -> u32
         ensures state { self.new.state ≡ next self.old.state }
         ensures drawn { result ≡ next self.old.state }
@@ -41,8 +42,7 @@ impl Draws {
 }
 
 // The first four numbers that seed 1 draws, computed.
-pub fn worked_draws() -> u8
+#[tactic(auto, unfolding(crate::specs::Draws::next))]
+pub fn worked_draws()
     ensures { drawn 4 (begun 1) ≡ 270369 ∷ 67634689 ∷ 2647435461 ∷ 307599695 ∷ [] }
-{
-    0
-}
+{}

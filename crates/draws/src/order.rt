@@ -9,6 +9,7 @@ use crate::Draws;
 
 // Shuffles a row: for i from the last place down to 1 draws r, and exchanges the entries i and r mod (i + 1).
 // The row afterwards has the same entries, in an order that exchanges reach, so none is lost and none comes twice.
+// The loop goes by place, since a turn exchanges two places of the row, and an iterator lends one entry at a time.
 pub fn shuffle<T>(row: &mut [T], draws: &mut Draws)
     ensures exchanges { (row.new, draws.new.state) ≡ shuffled row.old draws.old.state }
     ensures same { IsPermutation row.old row.new }

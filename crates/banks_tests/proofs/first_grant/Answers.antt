@@ -18,5 +18,5 @@ first_of n m m' r e step =
 pub returns : goal.returns
 returns c =
     first_of (whole_frames (length c.args.memory.now))
-    (flat_bank c.new-bank.result.store.memory.now c.new-bank.result.spares)
-    _ c.grant.result c.new-bank.ensures.model c.grant.ensures.step
+    (flat_bank c.new.result.store.memory.now c.new.result.spares)
+    _ c.grant.result c.new.ensures.model c.grant.ensures.step

@@ -12,7 +12,7 @@ returns c =
     let after = c.opened.result.store.memory.now in
     let held =
     ap (λ (s : FlatMemory). s.memory.now) c.opened.ensures.store ∙
-    (c.clear_if.ensures ∙ ap (λ n. cleared n before) c.whole_frames.ensures.value) in
+    (c.clear.ensures ∙ ap (λ n. cleared n before) c.of_bytes.ensures.value) in
     let model = flat_fresh before after c.opened.result.spares held c.opened.ensures.list c.opened.ensures.none in
     record {
       memory = held;

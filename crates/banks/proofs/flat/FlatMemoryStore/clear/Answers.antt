@@ -1,10 +1,9 @@
 use Rattle.std.proofs.Common.{◌≡◌, ◌+◌, ◌-◌, ◌≤◌, length, take, drop, ap, ◌∙◌, arith, length-drop, length-take}
-use Rattle.banks.specs.Memory.{whole_frames}
-use Rattle.banks.proofs.Stretches.{zeros, length-zeros, part_bytes, part_length, whole-within}
+use Rattle.banks.proofs.Stretches.{zeros, length-zeros, part_bytes, whole-within}
 use Rattle.banks.proofs.flat.FlatMemoryStore.clear.Goals as goal
 
-pub returns : goal.returns
-returns c =
+pub returns-clause-bytes : goal.returns-clause-bytes
+returns-clause-bytes c =
     let xs = c.args.self.now.memory.now in
     let n = c.args.count in
     let o = c.args.at in
@@ -13,7 +12,4 @@ returns c =
     let size : o + n - o ≡ length (zeros n) = omega arith in
     let part : length (take (o + n - o) (drop o xs)) ≡ n = simp (length-take, length-drop) (omega arith) in
     let filled = c.fill.ensures.after (λ y e. e) ∙ ap zeros part in
-    record {
-      frames = ap whole_frames (part_length xs (zeros n) c.fill.new.self o (o + n - o) room filled size);
-      bytes = part_bytes xs (zeros n) c.fill.new.self o (o + n - o) room filled size;
-    }
+    part_bytes xs (zeros n) c.fill.new.self o (o + n - o) room filled size

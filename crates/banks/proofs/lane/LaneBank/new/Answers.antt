@@ -12,10 +12,10 @@ returns c =
     let ys = c.args.second.now in
     let first =
     ap (λ (s : LaneMemory). s.first.now) c.opened.ensures.store ∙
-    (c.clear_if.ensures ∙ ap (λ n. cleared n xs) c.lane_frames-frames.ensures.value) in
+    (c.clear.ensures ∙ ap (λ n. cleared n xs) c.lane_frames-frames.ensures) in
     let second =
     ap (λ (s : LaneMemory). s.second.now) c.opened.ensures.store ∙
-    (c.clear_if-2.ensures ∙ ap (λ n. cleared n ys) c.lane_frames-frames.ensures.value) in
+    (c.clear-2.ensures ∙ ap (λ n. cleared n ys) c.lane_frames-frames.ensures) in
     let model =
     lane_fresh xs ys c.opened.result.store.first.now c.opened.result.store.second.now
     c.opened.result.spares first second c.opened.ensures.list c.opened.ensures.none in

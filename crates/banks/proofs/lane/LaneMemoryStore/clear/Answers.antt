@@ -1,27 +1,17 @@
-use Rattle.std.proofs.Common.{length, sym, ap, ◌∙◌, arith}
-use Rattle.banks.specs.Memory.{lane_frames, woven}
+use Rattle.std.proofs.Common.{◌-◌, sym, ◌∙◌, arith}
+use Rattle.banks.specs.Memory.{woven}
 use Rattle.banks.proofs.Stretches.{zeros, length-zeros, get_or-zeros}
-use Rattle.banks.proofs.Rows.{written_more, written_all}
+use Rattle.banks.proofs.Rows.{written_at}
 use Rattle.banks.proofs.lane.LaneMemoryStore.clear.Goals as goal
 
-pub loop-i-preserved : goal.loop-i-preserved
-loop-i-preserved c = (
-  written_more (woven c.args.self.now.first.now c.args.self.now.second.now)
-      (woven c.loop-i.self.first.now c.loop-i.self.second.now)
-      (woven c.set.new.self.first.now c.set.new.self.second.now) c.args.at (zeros c.args.count)
-      c.loop-i.i 0 c.loop-i.invariant.0 (omega (arith, length-zeros c.args.count)) (sym (get_or-zeros c.args.count c.loop-i.i)) c.set.ensures.bytes,
-  c.set.ensures.first ∙ c.loop-i.invariant.1,
-  c.set.ensures.second ∙ c.loop-i.invariant.2,
-)
-
-pub returns : goal.returns
-returns c =
-    record {
-      frames =
-          ap (λ n. lane_frames n (length c.loop-i.self.second.now)) c.loop-i.invariant.1 ∙
-          ap (lane_frames (length c.args.self.now.first.now)) c.loop-i.invariant.2;
-      bytes =
-          written_all (woven c.args.self.now.first.now c.args.self.now.second.now)
-          (woven c.loop-i.self.first.now c.loop-i.self.second.now) c.args.at (zeros c.args.count) c.loop-i.i
-          c.loop-i.invariant.0 (omega (arith, length-zeros c.args.count));
-    }
+pub loop-place-preserved : goal.loop-place-preserved
+loop-place-preserved c =
+    let long = length-zeros c.args.count in (
+      written_at (woven c.args.self.now.first.now c.args.self.now.second.now)
+          (woven c.loop-place.self.first.now c.loop-place.self.second.now)
+          (woven c.set.new.self.first.now c.set.new.self.second.now) c.args.at (zeros c.args.count)
+          c.loop-place.place 0 (omega arith) (omega arith) c.loop-place.invariant.0
+          (sym (get_or-zeros c.args.count (c.loop-place.place - c.args.at))) c.set.ensures.bytes,
+      c.set.ensures.first ∙ c.loop-place.invariant.1,
+      c.set.ensures.second ∙ c.loop-place.invariant.2,
+    )

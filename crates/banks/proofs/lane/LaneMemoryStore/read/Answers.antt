@@ -1,12 +1,7 @@
 use Rattle.std.proofs.Common.{length, arith}
 use Rattle.banks.specs.Memory.{woven}
-use Rattle.banks.proofs.Rows.{read_more, peek_all}
+use Rattle.banks.proofs.Rows.{peek_all}
 use Rattle.banks.proofs.lane.LaneMemoryStore.read.Goals as goal
-
-pub loop-i-preserved : goal.loop-i-preserved
-loop-i-preserved c =
-    read_more (woven c.args.self.now.first.now c.args.self.now.second.now) c.args.at
-    c.loop-i.buffer c.loop-i.i c.get.result (omega arith) c.get.ensures c.loop-i.invariant
 
 pub returns : goal.returns
 returns c =

@@ -1,9 +1,6 @@
-use Rattle.banks.proofs.Steps.{opening_list, opening-marks}
+use Rattle.std.proofs.Common.{rules}
+use Rattle.banks.proofs.Steps.{opening_list}
 use Rattle.banks.proofs.spares.Spares.opening.Goals as goal
 
-pub returns : goal.returns
-returns c =
-    record {
-      list = λ n few. opening_list n c.rising.result few c.rising.ensures;
-      none = λ n. opening-marks n c.rising.result;
-    }
+pub returns-clause-list : goal.returns-clause-list
+returns-clause-list c = λ n few. opening_list n c.rising.result few (search rules) c.rising.ensures
