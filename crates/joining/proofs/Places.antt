@@ -1,6 +1,7 @@
 -- Rows keep the laws of the elements; and what the two passes over a row come to.
-use Rattle.std.proofs.Common.{◌≡◌, ℕ, zero, suc, ◌+◌, ◌<◌, ◌≤◌, true, false, eqb, List, [], ◌∷◌, ◌++◌, length, get_or, take, drop, set, replicate, is_some, Some, None, Ok, Option, unwrap_or, sym, refl, ap, ◌∙◌, subst, ap₂, arith}
-use Rattle.std.proofs.lemmas.List.{drop_more, drop_all, set_at, set-get_or, get_or_at, length-take-le, append_assoc, append-nil, take_all, take_more}
+use Rattle.std.specs.List.{list_all, zip}
+use Rattle.std.proofs.Common.{◌≡◌, ◌&&◌, ℕ, zero, suc, ◌+◌, ◌<◌, ◌≤◌, true, eqb, List, [], ◌∷◌, ◌++◌, length, get_or, take, drop, set, replicate, is_some, Some, None, Ok, Option, unwrap_or, sym, refl, ap, ◌∙◌, subst, ap₂, arith}
+use Rattle.std.proofs.lemmas.List.{drop_more, drop_all, set_at, get_or_at, length-take-le, append_assoc, append-nil, take_all, take_more}
 use Rattle.std.proofs.lemmas.Bool.{cond-true, eq-eqb}
 use Rattle.joining.specs.Laws.{Commutes, Groups, Leaves}
 use Rattle.joining.specs.Rows.{before, rows, rows_joined, joined_or_clash}
@@ -13,7 +14,7 @@ over join (x ∷ xs) (y ∷ ys) = unwrap_or (join x y) x ∷ over join xs ys
 
 module _ {X : Type 0} where
   -- a row that was put together has both parts
-  pub parted : (o : Option X) (p : Option (List X)) (r : List X) → before o p ≡ Some r
+  parted : (o : Option X) (p : Option (List X)) (r : List X) → before o p ≡ Some r
       → (x : X) × (xs : List X) × (o ≡ Some x) × (p ≡ Some xs) × (r ≡ x ∷ xs)
   parted (Some x) (Some xs) r e = (x, xs, refl, refl, cc)
   parted (Some x) None r e = absurd (let z : ◌≡◌ {A = ℕ} 0 1 = cc in omega arith)
@@ -22,14 +23,15 @@ module _ {X : Type 0} where
   both_parts : (o : Option X) (p : Option (List X)) (x : X) (xs : List X) → o ≡ Some x → p ≡ Some xs → before o p ≡ Some (x ∷ xs)
   both_parts o p x xs e f = rw (e, f) refl
 
+  before-some : (o : Option X) (p : Option (List X)) → (is_some o && is_some p) ≡ is_some (before o p)
+  before-some (Some x) (Some xs) = refl
+  before-some (Some x) None = refl
+  before-some None p = refl
+
   before_test : (o : Option X) (p : Option (List X)) → is_some o ≡ true → is_some p ≡ is_some (before o p)
   before_test (Some x) (Some xs) e = refl
   before_test (Some x) None e = refl
   before_test None p e = absurd (let z : ◌≡◌ {A = ℕ} 0 1 = cc in omega arith)
-
-  before-none : (o : Option X) (p : Option (List X)) → is_some o ≡ false → is_some (before o p) ≡ false
-  before-none (Some x) p e = absurd (let z : ◌≡◌ {A = ℕ} 0 1 = cc in omega arith)
-  before-none None p e = refl
 
   module _ (join : X → X → Option X) where
     pub rows_commute : Commutes join → Commutes (rows join)
@@ -72,6 +74,14 @@ module _ {X : Type 0} where
     rows_leave none leaving (x ∷ xs) =
         both_parts (join none x) (rows join (replicate (length xs) none) xs) x xs (leaving x) (rows_leave none leaving xs)
 
+    -- two rows of one length join where the elements at each place do
+    pub rows_join : (xs ys : List X) → length xs ≡ length ys
+        → list_all (λ (p : X × X). is_some (join p.0 p.1)) (zip xs ys) ≡ is_some (rows join xs ys)
+    rows_join [] [] e = refl
+    rows_join [] (y ∷ ys) e = absurd (omega arith)
+    rows_join (x ∷ xs) [] e = absurd (omega arith)
+    rows_join (x ∷ xs) (y ∷ ys) e = ap (λ b. is_some (join x y) && b) (rows_join xs ys (omega arith)) ∙ before-some (join x y) (rows join xs ys)
+
     -- the first of the places from i on, and those after it
     at_place : (xs ys : List X) (i : ℕ) (d e : X) → i < length xs → i < length ys
         → rows join (drop i xs) (drop i ys) ≡ before (join (get_or xs i d) (get_or ys i e)) (rows join (drop (i + 1) xs) (drop (i + 1) ys))
@@ -87,21 +97,8 @@ module _ {X : Type 0} where
         ∙ ap (λ p. is_some (before p (rows join (drop (i + 1) xs) (drop (i + 1) ys)))) both
         ∙ sym (before_test o (rows join (drop (i + 1) xs) (drop (i + 1) ys)) joins)
 
-    pub rows_clash : (xs ys : List X) (i : ℕ) (x y : X) (o : Option X) → i < length xs → i < length ys
-        → x ≡ get_or xs i x → y ≡ get_or ys i y → o ≡ join x y → is_some o ≡ false
-        → is_some (rows join (drop i xs) (drop i ys)) ≡ false
-    rows_clash xs ys i x y o hx hy ex ey eo clashes =
-        let both : join (get_or xs i x) (get_or ys i y) ≡ o = cc in
-        ap is_some (at_place xs ys i x y hx hy)
-        ∙ ap (λ p. is_some (before p (rows join (drop (i + 1) xs) (drop (i + 1) ys)))) both
-        ∙ before-none o (rows join (drop (i + 1) xs) (drop (i + 1) ys)) clashes
-
-    -- nothing is left to test
-    pub rows_done : (xs ys : List X) (i : ℕ) → length xs ≤ i → length ys ≤ i → is_some (rows join (drop i xs) (drop i ys)) ≡ true
-    rows_done xs ys i hx hy = ap is_some (ap₂ (rows join) (drop_all i xs hx) (drop_all i ys hy))
-
     -- where the rows join, what is written over the first is the join
-    pub over_joined : (xs ys r : List X) → rows join xs ys ≡ Some r → over join xs ys ≡ r
+    over_joined : (xs ys r : List X) → rows join xs ys ≡ Some r → over join xs ys ≡ r
     over_joined [] [] r e = cc
     over_joined [] (y ∷ ys) r e = absurd (let z : ◌≡◌ {A = ℕ} 0 1 = cc in omega arith)
     over_joined (x ∷ xs) [] r e = absurd (let z : ◌≡◌ {A = ℕ} 0 1 = cc in omega arith)
@@ -109,12 +106,12 @@ module _ {X : Type 0} where
         let p = parted (join x y) (rows join xs ys) r e in
         ap₂ (λ a rest. a ∷ rest) (ap (λ o. unwrap_or o x) p.2) (over_joined xs ys p.1 p.3) ∙ sym p.4
 
-    pub length_over : (xs ys : List X) → length (over join xs ys) ≡ length xs
+    length_over : (xs ys : List X) → length (over join xs ys) ≡ length xs
     length_over [] ys = refl
     length_over (x ∷ xs) [] = refl
     length_over (x ∷ xs) (y ∷ ys) = ap suc (length_over xs ys)
 
-    pub over_at : (xs ys : List X) (i : ℕ) (d e f : X) → i < length xs → i < length ys
+    over_at : (xs ys : List X) (i : ℕ) (d e f : X) → i < length xs → i < length ys
         → get_or (over join xs ys) i f ≡ unwrap_or (join (get_or xs i d) (get_or ys i e)) (get_or xs i d)
     over_at [] ys i d e f hx hy = absurd (omega arith)
     over_at (x ∷ xs) [] i d e f hx hy = absurd (omega arith)
@@ -122,7 +119,7 @@ module _ {X : Type 0} where
     over_at (x ∷ xs) (y ∷ ys) (suc i) d e f hx hy = over_at xs ys i d e f (omega arith) (omega arith)
 
   -- a row that is written anew up to i, one place on
-  pub anew_more : (new old : List X) (i : ℕ) (v : X) → i < length new → i < length old → v ≡ get_or new i v
+  anew_more : (new old : List X) (i : ℕ) (v : X) → i < length new → i < length old → v ≡ get_or new i v
       → set (take i new ++ drop i old) i v ≡ take (i + 1) new ++ drop (i + 1) old
   anew_more new old i v in-new in' is =
       ap (λ rest. set (take i new ++ rest) i v) (drop_more old i v in')
@@ -130,32 +127,20 @@ module _ {X : Type 0} where
       ∙ sym (append_assoc (take i new) (v ∷ []) (drop (i + 1) old))
       ∙ ap (λ front. front ++ drop (i + 1) old) (ap (λ w. take i new ++ w ∷ []) is ∙ sym (take_more new i v in-new))
 
-  -- one turn of the pass that writes: x and y are read at the place i
-  pub over_more : (join : X → X → Option X) (old ys now : List X) (i : ℕ) (x y : X) → length old ≡ length ys → i < length old
-      → now ≡ take i (over join old ys) ++ drop i old → x ≡ get_or now i x → y ≡ get_or ys i y
-      → set now i (unwrap_or (join x y) x) ≡ take (i + 1) (over join old ys) ++ drop (i + 1) old
-  over_more join old ys now i x y same in' is ex ey =
+  -- one turn of the pass that writes: y is read at the place i
+  pub over_more : (join : X → X → Option X) (old ys now : List X) (i : ℕ) (d y : X) → length old ≡ length ys → i < length old
+      → now ≡ take i (over join old ys) ++ drop i old → y ≡ get_or ys i y
+      → set now i (unwrap_or (join (get_or now i d) y) (get_or now i d)) ≡ take (i + 1) (over join old ys) ++ drop (i + 1) old
+  over_more join old ys now i d y same in' is ey =
       let new : List X = over join old ys in
       let long : length (take i new) ≡ i = length-take-le i new (omega (arith, length_over join old ys)) in
-      let at : get_or now i x ≡ get_or old i x =
-      ap (λ l. get_or l i x) (is ∙ ap (λ rest. take i new ++ rest) (drop_more old i x in'))
-      ∙ get_or_at (take i new) (get_or old i x) (drop (i + 1) old) x i long in
-      let v : X = unwrap_or (join x y) x in
+      let at : get_or now i d ≡ get_or old i d =
+      ap (λ l. get_or l i d) (is ∙ ap (λ rest. take i new ++ rest) (drop_more old i d in'))
+      ∙ get_or_at (take i new) (get_or old i d) (drop (i + 1) old) d i long in
+      let v : X = unwrap_or (join (get_or now i d) y) (get_or now i d) in
       let value : v ≡ get_or new i v =
-      let e = over_at join old ys i x y v in' (omega arith) in
-      let x_is : get_or old i x ≡ x = cc in
-      sym (e ∙ ap₂ (λ p q. unwrap_or (join p q) p) x_is (sym ey)) in
+      ap₂ (λ p q. unwrap_or (join p q) p) at ey ∙ sym (over_at join old ys i d y v in' (omega arith)) in
       ap (λ l. set l i v) is ∙ anew_more new old i v (omega (arith, length_over join old ys)) in' value
-
-  -- what the turn writes: the join, or nothing where the two clash
-  pub over_some : (join : X → X → Option X) (now : List X) (i : ℕ) (x y v : X) (o : Option X) → o ≡ join x y → o ≡ Some v
-      → set now i v ≡ set now i (unwrap_or (join x y) x)
-  over_some join now i x y v o eo is = ap (λ p. set now i (unwrap_or p x)) (sym is ∙ eo)
-
-  pub over_none : (join : X → X → Option X) (now : List X) (i : ℕ) (x y : X) (o : Option X) → x ≡ get_or now i x → o ≡ join x y
-      → o ≡ None → now ≡ set now i (unwrap_or (join x y) x)
-  over_none join now i x y o ex eo is =
-      sym (ap (λ p. set now i (unwrap_or p x)) (sym eo ∙ is) ∙ ap (set now i) ex ∙ set-get_or now i x)
 
   -- the end of the pass
   pub over_all : (join : X → X → Option X) (old ys now : List X) (i : ℕ) → length old ≤ i

@@ -24,19 +24,17 @@ impl Join for Word {
     ghost leaving = { Prim.search rules };
 
     fn join(self, other: Word) -> Option<Word> {
-        if self.bits & other.bits == 0 {
-            Some(Word {
-                bits: self.bits | other.bits,
-            })
-        } else {
-            None
-        }
+        (self.bits & other.bits == 0).then_some(Word {
+            bits: self.bits | other.bits,
+        })
     }
 }
 
 // The content of one place: nothing, or one byte. A cell full with 0 is full.
-#[derive(Clone, Copy, PartialEq, Eq, Debug)]
+// As an `Option<u8>`, a join would answer an `Option<Option<u8>>`, where `None` is a clash and `Some(None)` an empty cell.
+#[derive(Clone, Copy, PartialEq, Eq, Debug, Default)]
 pub enum Cell {
+    #[default]
     Empty,
     Full(u8),
 }

@@ -8,7 +8,7 @@ use refusal::Refusal;
 // Joins the second row to the first, place by place: ROW where their lengths differ, CLASH where some place clashes.
 // A refusal leaves the first row as it was, so every place is tested before one is written.
 pub fn join_rows<T: Join + Copy>(first: &mut [T], second: &[T]) -> Result<(), Refusal>
-    ensures { (result, first.new) ≡ rows_joined T.Join.joined first.old second.now }
+    ensures { (result, first.new) ≡ rows_joined T.joined first.old second.now }
 {
     if first.len() != second.len() {
         return Err(Refusal::Row);
@@ -23,32 +23,24 @@ pub fn join_rows<T: Join + Copy>(first: &mut [T], second: &[T]) -> Result<(), Re
 // Whether two rows of one length join.
 fn rows_join<T: Join + Copy>(first: &[T], second: &[T]) -> bool
     requires { length first.now ≡ length second.now }
-    ensures { result ≡ is_some (row_join T.Join.joined first.now second.now) }
+    ensures { result ≡ is_some (row_join T.joined first.now second.now) }
 {
-    for i in 0..first.len() {
-        if first[i].join(second[i]).is_none() {
-            return false;
-        }
-    }
-    true
+    first.iter().zip(second).all(|(a, b)| a.join(*b).is_some())
 }
 
 // Writes the join over each element of the first row. The rows have been found to join.
 fn write_joined<T: Join + Copy>(first: &mut [T], second: &[T])
     requires same { length first.old ≡ length second.now }
-    requires joins { is_some (row_join T.Join.joined first.old second.now) ≡ true }
-    ensures { (Ok tt, first.new) ≡ rows_joined T.Join.joined first.old second.now }
+    requires joins { is_some (row_join T.joined first.old second.now) ≡ true }
+    ensures { (Ok tt, first.new) ≡ rows_joined T.joined first.old second.now }
 {
-    for i in 0..first.len() {
-        if let Some(both) = first[i].join(second[i]) {
-            first[i] = both;
-        }
+    // After a loop over `first.iter_mut().zip(second)`, a proof knows no element of the first row (tried).
+    for (i, a) in first.iter_mut().enumerate() {
+        *a = a.join(second[i]).unwrap_or(*a);
     }
 }
 
 // Rows of elements that keep the laws keep them too.
-pub fn rows_keep_the_laws<T: Join>() -> u8
-    ensures { RowsKeepLaws T.Join.joined T.Join.empty }
-{
-    0
-}
+pub fn rows_keep_the_laws<T: Join>()
+    ensures { RowsKeepLaws T.joined T.empty }
+{}

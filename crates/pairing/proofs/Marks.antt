@@ -1,70 +1,70 @@
--- What one pair more does to a proposal in the making.
-use Rattle.std.proofs.Common.{◌≡◌, ℕ, ◌/◌, ◌<◌, ◌≤◌, Bool, true, false, ◌||◌, eqb, leb, List, length, get_or, set, sym, ap, ◌∙◌, subst, ⊎_elim, arith}
-use Rattle.std.proofs.lemmas.List.{length-set, length-take-le, take_more_set, get_or-set_same, get_or-set_other}
-use Rattle.std.proofs.ByRecursion.{all-has, has_push}
-use Rattle.std.proofs.lemmas.Bool.{cases_eq, and_parts, leb-true}
+-- What one pair more and one turn more make of a proposal.
+use Rattle.std.proofs.Common.{◌≡◌, ℕ, ◌<◌, ◌≤◌, ◌/◌, take, Bool, true, false, ◌||◌, eqb, List, [], length, replicate, get_or, set, fold, ◌+◌, sym, refl, ap, subst, ◌∙◌, arith}
+use Rattle.std.proofs.lemmas.List.{length-set, length-take-le, get_or-replicate}
 use Rattle.std.proofs.lemmas.Bool.Decides.{nat_tests}
+use Rattle.std.proofs.lemmas.Grind.{common_steps}
+use Rattle.std.specs.List.{range_with_len}
 use Rattle.pairing.specs.declared.pairs.Pair.{Pair}
-use Rattle.pairing.specs.declared.proposal.Proposal.{Proposal}
-use Rattle.pairing.specs.Pairs.{paired, with_pair, accepted, Fair, Lawful}
-use Rattle.pairing.specs.Found.{listed, added, Marked, Sound}
-use Rattle.pairing.specs.Law.{paired_push, pairs_few, pairs_room}
+use Rattle.pairing.specs.Pairs.{paired, with_pair, Fair, Lawful}
+use Rattle.pairing.specs.Found.{Found, Sound}
+use Rattle.pairing.specs.Folds.{folded_counting_more}
+use Rattle.pairing.specs.Law.{paired_push, lawful_none, lawful_more, pairs_few, pairs_room}
 
-pub marks_more : (marks : List Bool) (ps ps' : List Pair) (i j : ℕ) → i < length marks → j < length marks
-    → ((k : ℕ) → k < 64 → get_or marks k false ≡ paired k ps) → ps' ≡ with_pair ps i j
-    → (k : ℕ) → k < 64 → get_or (set (set marks i true) j true) k false ≡ paired k ps'
-marks_more marks ps ps' i j hi hj are e k h =
-    let more : paired k ps' ≡ (paired k ps || (eqb k i || eqb k j)) = ap (paired k) e ∙ paired_push k ps (record { left = i; right = j }) in
-    ⊎_elim
-    (λ same.
-    let here : get_or (set (set marks i true) j true) k false ≡ true =
-    ap (λ q. get_or (set (set marks i true) j true) q false) same
-    ∙ get_or-set_same (set marks i true) j true false (omega (arith, length-set marks i true)) in
-    grind (arith, nat_tests))
-    (λ other.
-    let pass = get_or-set_other (set marks i true) j k true false other in
-    ⊎_elim
-    (λ same.
-    let here : get_or (set marks i true) k false ≡ true = ap (λ q. get_or (set marks i true) q false) same ∙ get_or-set_same marks i true false hi in
-    grind (arith, nat_tests))
-    (λ another.
-    let there : get_or (set marks i true) k false ≡ paired k ps = get_or-set_other marks i k true false another ∙ are k h in
-    grind (arith, nat_tests))
-    (cases_eq k i))
-    (cases_eq k j)
+marks_more : (marks : List Bool) (ps : List Pair) (i j : ℕ) → i < length marks → j < length marks
+    → ((k : ℕ) → k < 64 → get_or marks k false ≡ paired k ps)
+    → (k : ℕ) → k < 64 → get_or (set (set marks i true) j true) k false ≡ paired k (with_pair ps i j)
+marks_more marks ps i j hi hj are k h =
+    let more : paired k (with_pair ps i j) ≡ (paired k ps || (eqb k i || eqb k j)) = paired_push k ps (record { left = i; right = j }) in
+    let was = are k h in grind (arith, nat_tests, common_steps)
 
-pub length-listed : (f : Proposal) → Marked f → length (listed f) ≡ f.count
-length-listed f m = length-take-le f.count f.pairs (omega (arith, m.room, m.few))
-
--- where one pair more is lawful, its places have marks, and there is room for it
-pub added-fits : (ms : List ℕ) (f : Proposal) (i j : ℕ) → Marked f → length ms ≤ 64 → Lawful ms (with_pair (listed f) i j)
-    → (f.count < 32) × (i < 64) × (j < 64)
-added-fits ms f i j m few law =
-    let p : Pair = record { left = i; right = j } in
-    let fair = all-has (Fair ms) (with_pair (listed f) i j) p law.fair (has_push (listed f) p) in
-    (omega (arith, pairs_room ms (listed f) i j law few, length-listed f m), omega (arith, fair.left_below), omega (arith, fair.right_below))
-
--- and the proposal with it holds just one pair more
-pub added-listed : (f : Proposal) (i j : ℕ) → Marked f → f.count < 32 → listed (added f i j) ≡ with_pair (listed f) i j
-added-listed f i j m room = take_more_set f.pairs f.count (record { left = i; right = j }) (omega (arith, m.room))
-
-pub added_sound : (ms : List ℕ) (f : Proposal) (i j : ℕ) → Marked f → length ms ≤ 64 → Lawful ms (with_pair (listed f) i j)
-    → Sound ms (added f i j)
-added_sound ms f i j m few law =
-    let fits = added-fits ms f i j m few law in
-    let is = added-listed f i j m fits.0 in
+-- no pair is found yet
+pub sound_none : (ms : List ℕ) (ps : List Pair) → length ms ≤ 64 → ps ≡ [] → Sound ms ps (replicate 64 false)
+sound_none ms ps few none =
     record {
-      marked = record {
-        room = length-set f.pairs f.count (record { left = i; right = j }) ∙ m.room;
-        places = length-set (set f.marks i true) j true ∙ length-set f.marks i true ∙ m.places;
-        few = omega (arith, fits.0);
-        marks = marks_more f.marks (listed f) (listed (added f i j)) i j (omega (arith, m.places, fits.1)) (omega (arith, m.places, fits.2)) m.marks is;
-      };
-      lawful = subst (Lawful ms) (sym is) law;
+      few = few;
+      lawful = subst (Lawful ms) (sym none) (lawful_none ms);
+      places = refl;
+      marked = λ k h. get_or-replicate 64 k false false h ∙ sym (ap (paired k) none);
     }
 
--- a buffer that is accepted has room for all
-pub room_all : (ms : List ℕ) (f : Proposal) (b : ℕ) → Sound ms f → accepted (length ms) b ≡ true → f.count ≤ b
-room_all ms f b s ok =
-    let p = and_parts (leb (length ms) 64) (leb (length ms / 2) b) ok in
-    omega (arith, pairs_few ms (listed f) s.lawful, length-listed f s.marked, leb-true (length ms / 2) b p.1)
+-- two free places whose masks join, where f is what a sound proposal shows
+module _ {f g : Found} {marks : List Bool} {i j : ℕ} (is : g ≡ f) (sound : Sound g.masks g.pairs marks)
+    (fair : Fair f.masks (record { left = i; right = j })) (free : (paired i f.pairs ≡ false) × (paired j f.pairs ≡ false)) where
+  lawful_pair : Lawful g.masks (with_pair g.pairs i j)
+  lawful_pair =
+      let fair' = subst (λ h. Fair h.masks (record { left = i; right = j })) (sym is) fair in
+      let free' = subst (λ h. (paired i h.pairs ≡ false) × (paired j h.pairs ≡ false)) (sym is) free in
+      lawful_more g.masks g.pairs i j sound.lawful fair' free'.0 free'.1
+
+  -- there is room for their pair
+  pub room_more : length g.pairs < 32
+  room_more = pairs_room g.masks g.pairs i j lawful_pair sound.few
+
+  -- with the pair, and both its places marked, the proposal is as sound
+  pub sound_more : (ps : List Pair) → ps ≡ with_pair g.pairs i j → Sound g.masks ps (set (set marks i true) j true)
+  sound_more ps more =
+      let long : length f.masks ≡ length g.masks = ap (λ h. length h.masks) (sym is) in
+      subst (λ qs. Sound g.masks qs (set (set marks i true) j true)) (sym more)
+      (record {
+        few = sound.few;
+        lawful = lawful_pair;
+        places = length-set (set marks i true) j true ∙ length-set marks i true ∙ sound.places;
+        marked = marks_more marks g.pairs i j (omega (arith, long, sound.few, sound.places, fair.left_below))
+            (omega (arith, long, sound.few, sound.places, fair.right_below)) sound.marked;
+      })
+
+-- a buffer for half as many pairs as there are masks has room for all
+pub pairs_fit : {f g : Found} {marks : List Bool} → g ≡ f → Sound g.masks g.pairs marks → (n : ℕ) (buffer : List Pair) → n ≡ length g.pairs
+    → length f.masks / 2 ≤ length buffer → (n ≤ length buffer) × (length (take n buffer) ≡ n)
+pairs_fit {f} {g} is sound n buffer count room =
+    let fits : n ≤ length buffer = omega (arith, pairs_few g.masks g.pairs sound.lawful, ap (λ h. length h.masks) is) in
+    (fits, length-take-le n buffer fits)
+
+-- one turn more: what the turns so far and this one make of a proposal
+pub turn_more : (turn : List ℕ → List Pair → ℕ → List Pair) (ms : List ℕ) (start : List Pair) (k : ℕ) {f g : Found}
+    → f ≡ record { masks = ms; pairs = fold (turn ms) start (range_with_len 0 k) } → g ≡ record f { pairs = turn f.masks f.pairs k }
+    → g ≡ record { masks = ms; pairs = fold (turn ms) start (range_with_len 0 (k + 1)) }
+turn_more turn ms start k before more =
+    more
+    ∙ ap (λ (h : Found). record h { pairs = turn h.masks h.pairs k }) before
+    ∙ ap (λ ps. let h : Found = record { masks = ms; pairs = ps } in h) (sym (folded_counting_more (turn ms) start k))

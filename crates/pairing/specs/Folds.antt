@@ -1,13 +1,12 @@
--- Folds and filters over the numbers from a place on.
-use Rattle.std.specs.Prelude.{◌≡◌, ℕ, zero, suc, ◌+◌, ◌-◌, ◌<◌, ◌≤◌, Bool, true, false, List, [], ◌∷◌, ◌++◌, Some, None, fold, filter}
+-- Folds and searches over the numbers from a place on.
+use Rattle.std.specs.Prelude.{◌≡◌, ℕ, zero, suc, ◌+◌, ◌-◌, ◌<◌, ◌≤◌, Bool, true, false, List, [], ◌∷◌, ◌++◌, Some, None, fold}
 use Rattle.std.proofs.Common.{sym, ap, ◌∙◌, arith, ⊎_elim}
-use Rattle.std.specs.List.{range_with_len, AllByRecursion}
+use Rattle.std.specs.List.{find, range_with_len, AllByRecursion}
 use Rattle.std.proofs.lemmas.List.{map-id}
 use Rattle.std.proofs.lemmas.List.Sums.{fold_push}
 use Rattle.std.proofs.lemmas.List.FromFn.{map-range_with_len_more, length-range_with_len, get_or-range_with_len}
 use Rattle.std.proofs.ByRecursion.{All-from_get_or}
 use Rattle.std.proofs.lemmas.Bool.{cond-true, cond-false, cases_Bool, cases_eq}
-use Rattle.pairing.specs.Search.{first}
 
 pub counting_push : (n : ℕ) → range_with_len 0 (n + 1) ≡ range_with_len 0 n ++ n ∷ []
 counting_push n =
@@ -35,16 +34,16 @@ counting_first k n h = let more : n - k ≡ suc (n - (k + 1)) = omega arith in a
 
 module _ (t : ℕ → Bool) where
   -- what the first number that passes is, and that none before it does
-  pub first_some : (m k j : ℕ) → first (filter t (range_with_len k m)) ≡ Some j
+  pub find_some : (m k j : ℕ) → find t (range_with_len k m) ≡ Some j
       → (k ≤ j) × (j < k + m) × (t j ≡ true) × ((q : ℕ) → k ≤ q → q < j → t q ≡ false)
-  first_some zero k j e = absurd (let z : ◌≡◌ {A = ℕ} 0 1 = cc in omega arith)
-  first_some (suc m) k j e =
+  find_some zero k j e = absurd (let z : ◌≡◌ {A = ℕ} 0 1 = cc in omega arith)
+  find_some (suc m) k j e =
       ⊎_elim
       (λ passes.
-      let same : k ≡ j = let f = ap first (cond-true (t k) (k ∷ filter t (range_with_len (k + 1) m)) (filter t (range_with_len (k + 1) m)) passes) in cc in
+      let same : k ≡ j = let f = cond-true (t k) (Some k) (find t (range_with_len (k + 1) m)) passes in cc in
       (omega arith, omega arith, ap t (sym same) ∙ passes, λ q low high. absurd (omega arith)))
       (λ fails.
-      let r = first_some m (k + 1) j (sym (ap first (cond-false (t k) (k ∷ filter t (range_with_len (k + 1) m)) (filter t (range_with_len (k + 1) m)) fails)) ∙ e) in (
+      let r = find_some m (k + 1) j (sym (cond-false (t k) (Some k) (find t (range_with_len (k + 1) m)) fails) ∙ e) in (
         omega (arith, r.0),
         omega (arith, r.1),
         r.2,
@@ -52,29 +51,27 @@ module _ (t : ℕ → Bool) where
       ))
       (cases_Bool (t k))
 
-  pub first_none : (m k : ℕ) → first (filter t (range_with_len k m)) ≡ None → (q : ℕ) → k ≤ q → q < k + m → t q ≡ false
-  first_none zero k e q low high = absurd (omega arith)
-  first_none (suc m) k e q low high =
+  pub find_none : (m k : ℕ) → find t (range_with_len k m) ≡ None → (q : ℕ) → k ≤ q → q < k + m → t q ≡ false
+  find_none zero k e q low high = absurd (omega arith)
+  find_none (suc m) k e q low high =
       ⊎_elim
       (λ passes.
-      let f = ap first (cond-true (t k) (k ∷ filter t (range_with_len (k + 1) m)) (filter t (range_with_len (k + 1) m)) passes) in
+      let f = cond-true (t k) (Some k) (find t (range_with_len (k + 1) m)) passes in
       absurd (let z : ◌≡◌ {A = ℕ} 0 1 = cc in omega arith))
       (λ fails.
-      let g = sym (ap first (cond-false (t k) (k ∷ filter t (range_with_len (k + 1) m)) (filter t (range_with_len (k + 1) m)) fails)) ∙ e in
-      ⊎_elim (λ same. ap t same ∙ fails) (λ other. first_none m (k + 1) g q (omega (arith, other)) (omega arith)) (cases_eq q k))
+      let g = sym (cond-false (t k) (Some k) (find t (range_with_len (k + 1) m)) fails) ∙ e in
+      ⊎_elim (λ same. ap t same ∙ fails) (λ other. find_none m (k + 1) g q (omega (arith, other)) (omega arith)) (cases_eq q k))
       (cases_Bool (t k))
 
   -- one turn of a search
-  pub first_here : (k n : ℕ) → k < n → t k ≡ true → first (filter t (range_with_len k (n - k))) ≡ Some k
-  first_here k n h passes =
-      ap (λ l. first (filter t l)) (counting_first k n h)
-      ∙ ap first (cond-true (t k) (k ∷ filter t (range_with_len (k + 1) (n - (k + 1)))) (filter t (range_with_len (k + 1) (n - (k + 1)))) passes)
+  pub find_here : (k n : ℕ) → k < n → t k ≡ true → find t (range_with_len k (n - k)) ≡ Some k
+  find_here k n h passes =
+      ap (find t) (counting_first k n h) ∙ cond-true (t k) (Some k) (find t (range_with_len (k + 1) (n - (k + 1)))) passes
 
-  pub first_later : (k n : ℕ) → k < n → t k ≡ false
-      → first (filter t (range_with_len k (n - k))) ≡ first (filter t (range_with_len (k + 1) (n - (k + 1))))
-  first_later k n h fails =
-      ap (λ l. first (filter t l)) (counting_first k n h)
-      ∙ ap first (cond-false (t k) (k ∷ filter t (range_with_len (k + 1) (n - (k + 1)))) (filter t (range_with_len (k + 1) (n - (k + 1)))) fails)
+  pub find_later : (k n : ℕ) → k < n → t k ≡ false
+      → find t (range_with_len k (n - k)) ≡ find t (range_with_len (k + 1) (n - (k + 1)))
+  find_later k n h fails =
+      ap (find t) (counting_first k n h) ∙ cond-false (t k) (Some k) (find t (range_with_len (k + 1) (n - (k + 1)))) fails
 
-  pub first_end : (k n : ℕ) → n ≤ k → first (filter t (range_with_len k (n - k))) ≡ None
-  first_end k n h = let none : n - k ≡ 0 = omega arith in ap (λ m. first (filter t (range_with_len k m))) none
+  pub find_end : (k n : ℕ) → n ≤ k → find t (range_with_len k (n - k)) ≡ None
+  find_end k n h = let none : n - k ≡ 0 = omega arith in ap (λ m. find t (range_with_len k m)) none

@@ -26,12 +26,12 @@ apart_push (q ∷ qs) p apart l r =
 pub lawful_none : (ms : List ℕ) → Lawful ms []
 lawful_none ms = record { fair = tt; apart = tt }
 
-pub lawful_more : (ms : List ℕ) (ps : List Pair) (i j : ℕ) → Lawful ms ps → i < length ms → j < length ms → (i ≢ j)
-    → paired i ps ≡ false → paired j ps ≡ false → joins ms i j ≡ true → Lawful ms (with_pair ps i j)
-lawful_more ms ps i j law il jl ne fi fj join =
+-- two free places whose masks join are one pair more
+pub lawful_more : (ms : List ℕ) (ps : List Pair) (i j : ℕ) → Lawful ms ps → Fair ms (record { left = i; right = j })
+    → paired i ps ≡ false → paired j ps ≡ false → Lawful ms (with_pair ps i j)
+lawful_more ms ps i j law fair fi fj =
     record {
-      fair = All-push (Fair ms) ps (record { left = i; right = j }) law.fair
-          (record { left_below = il; right_below = jl; differ = ne; join = join });
+      fair = All-push (Fair ms) ps (record { left = i; right = j }) law.fair fair;
       apart = apart_push ps (record { left = i; right = j }) law.apart fi fj;
     }
 
@@ -40,7 +40,8 @@ pub taken_lawful : (ms : List ℕ) (ps : List Pair) (i j : ℕ) → Lawful ms ps
     → not (paired i ps) ≡ true → takes ms ps i j ≡ true → Lawful ms (with_pair ps i j)
 taken_lawful ms ps i j law il jl ne free may =
     let b = and_parts (not (paired j ps)) (joins ms i j) may in
-    lawful_more ms ps i j law il jl ne (not-true (paired i ps) free) (not-true (paired j ps) b.0) b.1
+    lawful_more ms ps i j law (record { left_below = il; right_below = jl; differ = ne; join = b.1 }) (not-true (paired i ps) free)
+    (not-true (paired j ps) b.0)
 
 -- an offer keeps the law
 pub offered_lawful : (ms : List ℕ) (ps : List Pair) (i j : ℕ) → Lawful ms ps → i < length ms → j < length ms → (i ≢ j)

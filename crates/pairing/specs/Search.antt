@@ -1,16 +1,12 @@
 -- Greedy: each place in turn, if it is unpaired, takes the least unpaired place above it whose mask joins.
-use Rattle.std.specs.Prelude.{◌≡◌, ℕ, ◌+◌, ◌-◌, ◌<◌, true, false, cond, ◌⊎◌, List, [], ◌∷◌, length, Some, None, fold, filter, Option, ◌≢◌}
-use Rattle.std.specs.List.{range_with_len}
+use Rattle.std.specs.Prelude.{◌≡◌, ℕ, ◌+◌, ◌-◌, ◌<◌, true, false, cond, ◌⊎◌, List, [], length, fold, Option, ◌≢◌}
+use Rattle.std.specs.List.{find, range_with_len}
 use Rattle.pairing.specs.declared.pairs.Pair.{Pair}
 use Rattle.pairing.specs.Pairs.{paired, joins, takes, taken, with_pair}
 
-abbrev pub first : List ℕ → Option ℕ
-first [] = None
-first (x ∷ xs) = Some x
-
 -- the least of the places from k on that i may take
 abbrev pub least_from : List ℕ → List Pair → ℕ → ℕ → Option ℕ
-least_from ms ps i k = first (filter (takes ms ps i) (range_with_len k (length ms - k)))
+least_from ms ps i k = find (takes ms ps i) (range_with_len k (length ms - k))
 
 -- the turn of the place i, after the pairs ps
 abbrev pub turn : List ℕ → List Pair → ℕ → List Pair

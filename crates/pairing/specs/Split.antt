@@ -1,16 +1,15 @@
 -- SplitMesher's order and passes: what they keep.
-use Rattle.std.specs.Prelude.{◌≡◌, ℕ, ◌+◌, ◌-◌, ◌/◌, ◌%◌, ◌<◌, ◌≤◌, cond, List, [], ◌∷◌, ◌++◌, length, take, ◌==◌, ◌≢◌, slice_index, refl}
-use Rattle.std.proofs.Common.{sym, ap, subst, ◌∙◌, ⊎_elim, arith}
-use Rattle.std.specs.List.{range_with_len, swap}
+use Rattle.std.specs.Prelude.{◌≡◌, ℕ, ◌+◌, ◌/◌, ◌%◌, ◌<◌, List, [], length, ◌≢◌, slice_index, ◌-◌, ◌≤◌, cond, ◌∷◌, ◌++◌, take, ◌==◌, refl}
+use Rattle.std.proofs.Common.{false, eqb, get_or, sym, ◌∙◌, ⊎_elim, arith, ap, subst}
+use Rattle.std.specs.List.{All, IsDistinct, range_with_len, swap}
 use Rattle.std.specs.List.Sorted.{IsPermutation}
-use Rattle.std.proofs.lemmas.List.Edits.{Swapped, swapped_from_swap, length-swap}
-use Rattle.std.proofs.lemmas.List.Sorted.{IsPermutation-keeps}
+use Rattle.std.proofs.lemmas.List.Elements.{All-get_or, All-from_get_or}
+use Rattle.std.proofs.lemmas.List.Sorted.{length_permutation, All-permutation}
+use Rattle.std.proofs.lemmas.Map.Keys.{IsDistinct-from_apart, IsDistinct-IsPermutation, apart_from_distinct}
 use Rattle.std.proofs.lemmas.List.FromFn.{length-range_with_len, get_or-range_with_len, fill_by_all}
-use Rattle.std.proofs.lemmas.List.{length-take-le, get_or-take, map-id, take_at}
 use Rattle.std.proofs.lemmas.Nat.{mod_below}
-use Rattle.std.proofs.lemmas.Bool.{cases_eq}
+use Rattle.std.proofs.lemmas.Bool.{cases_order, eqb-false, cases_eq}
 use Rattle.std.proofs.lemmas.Bool.Decides.{nat_tests}
-use Rattle.draws.specs.Shuffle.{shuffled}
 use Rattle.draws.proofs.Turns.{shuffled_same}
 use Rattle.pairing.specs.declared.pairs.Pair.{Pair}
 use Rattle.pairing.specs.declared.halves.SplitMesher.{SplitMesher}
@@ -18,6 +17,9 @@ use Rattle.pairing.specs.Pairs.{Lawful}
 use Rattle.pairing.specs.Halves.{Order, shifted_turn, pass, passes, shuffled_places, split_pairs}
 use Rattle.pairing.specs.Folds.{folded_keeps, counting_below}
 use Rattle.pairing.specs.Law.{lawful_none, offered_lawful}
+use Rattle.std.proofs.lemmas.List.Edits.{Swapped, swapped_from_swap, length-swap}
+use Rattle.std.proofs.lemmas.List.{length-take-le, get_or-take, map-id, take_at}
+use Rattle.draws.specs.Shuffle.{shuffled}
 
 -- where the entry at k comes from, when the entries at a and b are exchanged
 source : ℕ → ℕ → ℕ → ℕ
@@ -69,9 +71,39 @@ order_counting n =
       apart = λ i j hi hj ne same. ne (omega (arith, get_or-range_with_len 0 n i 0 hi, get_or-range_with_len 0 n j 0 hj, same));
     }
 
+-- a row that has each number below n once is an order
 pub order_shuffled : (n : ℕ) (row : List ℕ) → IsPermutation (range_with_len 0 n) row → Order n row
 order_shuffled n row same =
-    IsPermutation-keeps (range_with_len 0 n) (Order n) (order_counting n) (λ l i j hi hj o. order_exchanged n l i j hi hj o) row same
+    let counting : List ℕ = range_with_len 0 n in
+    let long : length row ≡ n = length_permutation counting row same ∙ length-range_with_len 0 n in
+    let all : All (λ k. k < n) row =
+    All-permutation (λ k. k < n) counting row same
+    (All-from_get_or (λ k. k < n) counting 0
+    (λ i h. omega (arith, length-range_with_len 0 n, h, get_or-range_with_len 0 n i 0 (omega (arith, length-range_with_len 0 n, h))))) in
+    let distinct : IsDistinct eqb row =
+    IsDistinct-IsPermutation eqb (λ x y. grind (arith, nat_tests)) counting row same
+    (IsDistinct-from_apart eqb counting
+    (λ i j d h hj. rising i j d h (omega (arith, length-range_with_len 0 n, hj)))) in
+    record {
+      long = long;
+      below = λ k h. All-get_or (λ q. q < n) row k 0 (omega (arith, long, h)) all;
+      apart = λ i j hi hj ne e.
+          ⊎_elim ne
+          (⊎_elim (λ h. differ distinct i j h (omega (arith, long, hj)) e) (λ h. differ distinct j i h (omega (arith, long, hi)) (sym e)))
+          (cases_order i j);
+    }
+  where
+    rising : (i j d : ℕ) → i < j → j < n → eqb (get_or (range_with_len 0 n) i d) (get_or (range_with_len 0 n) j d) ≡ false
+    rising i j d h hj =
+        let ei = get_or-range_with_len 0 n i d (omega arith) in
+        let ej = get_or-range_with_len 0 n j d hj in
+        grind (arith, nat_tests)
+
+    differ : IsDistinct eqb row → (i j : ℕ) → i < j → j < length row → get_or row i 0 ≢ get_or row j 0
+    differ distinct i j h hj = eqb-false (get_or row i 0) (get_or row j 0) (apart_from_distinct eqb row i j 0 distinct h hj)
+
+pub order_of_shuffle : (n state : ℕ) → Order n (shuffled_places n state).0
+order_of_shuffle n state = order_shuffled n (shuffled_places n state).0 (shuffled_same (range_with_len 0 n) state)
 
 -- the two places that a turn offers are places of masks, and differ
 pub record Offer (ms order : List ℕ) (j k : ℕ) : Type 0 where
@@ -111,8 +143,7 @@ passes_lawful ms order t o =
 
 pub split_lawful : (s : SplitMesher) (ms : List ℕ) → Lawful ms (split_pairs s ms)
 split_lawful s ms =
-    passes_lawful ms (shuffled_places (length ms) s.draws.state).0 s.tries
-    (order_shuffled (length ms) (shuffled_places (length ms) s.draws.state).0 (shuffled_same (range_with_len 0 (length ms)) s.draws.state))
+    passes_lawful ms (shuffled_places (length ms) s.draws.state).0 s.tries (order_of_shuffle (length ms) s.draws.state)
 
 -- the front of the rising places, shuffled in place
 pub front_shuffled : (n s : ℕ) (places row rest : List ℕ) (s' : ℕ) → length places ≡ 64 → ((k : ℕ) → k < 64 → slice_index places k ≡ k) → n ≤ 64

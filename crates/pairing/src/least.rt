@@ -1,11 +1,9 @@
 // Greedy: each place in turn takes the least partner.
-ghost use Rattle.std.specs.Prelude.{◌≡◌, ◌+◌, ◌<◌, ◌≤◌, true, not, length};
-ghost use Rattle.pairing.specs.Pairs.{paired, taken, Lawful};
-ghost use Rattle.pairing.specs.Search.{least_from, turn, greedy_pairs, TakesTheLeast};
-ghost use Rattle.pairing.specs.Found.{listed, Sound};
+ghost use Rattle.std.specs.Prelude.{◌≡◌, ◌<◌, length};
+ghost use Rattle.pairing.specs.Search.{turn, greedy_pairs, TakesTheLeast};
 ghost use Rattle.pairing.specs.Turns.{greedy_lawful};
 
-use crate::pairs::{Pair, Pairing, is_accepted};
+use crate::pairs::{Pair, Pairing};
 use crate::proposal::Proposal;
 use refusal::Refusal;
 
@@ -22,61 +20,28 @@ impl Pairing for Greedy {
     ghost lawful = { λ s ms. greedy_lawful ms };
 
     fn propose(&mut self, masks: &[u64], buffer: &mut [Pair]) -> Result<usize, Refusal> {
-        if !is_accepted(masks, buffer) {
-            return Err(Refusal::Row);
+        let mut found = Proposal::new(masks, buffer.len())?;
+        for place in 0..masks.len() {
+            take_turn(&mut found, place);
         }
-        let found = search(masks);
         Ok(found.write_to(buffer))
     }
 }
 
-// Every place in turn.
-fn search(masks: &[u64]) -> Proposal
-    requires { length masks.now ≤ 64 }
-    ensures listed { listed result ≡ greedy_pairs masks.now }
-    ensures sound { Sound masks.now result }
-{
-    let mut found = Proposal::new();
-    for place in 0..masks.len() {
-        take_turn(&mut found, masks, place as u8);
-    }
-    found
-}
-
 // The turn of one place: if it is unpaired, it is paired with the least place that it may take, if there is one.
-fn take_turn(found: &mut Proposal, masks: &[u64], place: u8)
-    requires sound { Sound masks.now found.old }
-    requires few { length masks.now ≤ 64 }
-    requires within { place < length masks.now }
-    ensures listed { listed found.new ≡ turn masks.now (listed found.old) place }
-    ensures sound { Sound masks.now found.new }
+fn take_turn(found: &mut Proposal, place: usize)
+    requires { place < length found.old.masks }
+    ensures { found.new ≡ record found.old { pairs = turn found.old.masks found.old.pairs place } }
 {
     if found.is_free(place) {
-        let other = partner(found, masks, place);
-        found.take(masks, place, other);
-    }
-}
-
-// The least unpaired place above this one, which is unpaired, whose mask joins. With it the pairs stay lawful.
-fn partner(found: &Proposal, masks: &[u64], place: u8) -> Option<u8>
-    requires sound { Sound masks.now found.now }
-    requires few { length masks.now ≤ 64 }
-    requires within { place < length masks.now }
-    requires free { not (paired place (listed found.now)) ≡ true }
-    ensures least { result ≡ least_from masks.now (listed found.now) place (place + 1) }
-    ensures lawful { Lawful masks.now (taken (listed found.now) place result) }
-{
-    for other in place as usize + 1..masks.len() {
-        if found.may_take(masks, place, other as u8) {
-            return Some(other as u8);
+        if let Some(other) = found.least_partner(place) {
+            found.add(place, other);
         }
     }
-    None
 }
 
 // Each turn is as the rule says.
-pub fn greedy_takes_the_least() -> u8
+#[tactic(auto, using(crate::specs::Turns::takes_the_least))]
+pub fn greedy_takes_the_least()
     ensures { TakesTheLeast }
-{
-    0
-}
+{}

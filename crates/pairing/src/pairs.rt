@@ -10,7 +10,7 @@ use refusal::Refusal;
 pub const MOST_MASKS: usize = 64;
 
 // Two places of a list of masks.
-#[derive(Clone, Copy, PartialEq, Eq, Debug)]
+#[derive(Clone, Copy, PartialEq, Eq, Debug, Default)]
 pub struct Pair {
     pub left: u8,
     pub right: u8,
@@ -29,6 +29,9 @@ pub trait Pairing: Sized {
     // Writes the pairs from the buffer's start, leaves its remainder as it was, and answers how many there are. More
     // than `MOST_MASKS` masks, or a buffer for fewer pairs than half the masks, are refused with ROW, and neither the
     // buffer nor the condition changes.
+    //
+    // The buffer is the caller's, with a number beside it, since a pairing takes no heap memory, and what stands in the
+    // buffer behind the pairs is the caller's, too.
     fn propose(&mut self, masks: &[u64], buffer: &mut [Pair]) -> Result<usize, Refusal>
         ensures answer { result ≡ (if accepted (length masks.now) (length buffer.old) then Ok (length (pairs self.old masks.now)) else Err Row) }
         ensures written { buffer.new ≡ (if accepted (length masks.now) (length buffer.old) then written_over (pairs self.old masks.now) buffer.old else buffer.old) }
@@ -37,16 +40,8 @@ pub trait Pairing: Sized {
     ghost lawful: { (s : Self) (ms : List ℕ) → Lawful ms (pairs s ms) };
 }
 
-// Whether the call can be answered.
-pub(crate) fn is_accepted(masks: &[u64], buffer: &[Pair]) -> bool
-    ensures { result ≡ accepted (length masks.now) (length buffer.now) }
-{
-    masks.len() <= MOST_MASKS && masks.len() / 2 <= buffer.len()
-}
-
 // A pairing proposes at most half as many pairs as there are masks, since no place stands in two.
-pub fn at_most_half<P: Pairing>() -> u8
-    ensures { (s : P) (ms : List ℕ) → length (P.Pairing.pairs s ms) ≤ length ms / 2 }
-{
-    0
-}
+#[tactic(auto, using(crate::specs::Law::pairs_few))]
+pub fn at_most_half<P: Pairing>()
+    ensures { (s : P) (ms : List ℕ) → length (P.pairs s ms) ≤ length ms / 2 }
+{}

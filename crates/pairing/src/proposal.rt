@@ -1,105 +1,117 @@
 // A proposal in the making: the pairs found so far.
-ghost use Rattle.std.specs.Prelude.{◌≡◌, ◌<◌, ◌≤◌, not, [], length, ◌≢◌};
+ghost use Rattle.std.specs.Prelude.{◌≡◌, ◌+◌, ◌/◌, ◌<◌, ◌≤◌, not, [], length, ◌≢◌, false, if◌then◌else◌, Ok, Err};
+ghost use Rattle.refusal.specs.declared.Refusal.TheVariants.{Row};
 ghost use Rattle.joining.specs.Kinds.{masks_join};
-ghost use Rattle.pairing.specs.Pairs.{paired, takes, taken, offered, written_over, Lawful};
-ghost use Rattle.pairing.specs.Found.{listed, added, Marked, Sound};
+ghost use Rattle.pairing.specs.Pairs.{paired, takes, offered, accepted, written_over, with_pair, Fair};
+ghost use Rattle.pairing.specs.Search.{least_from};
 
 use crate::pairs::{MOST_MASKS, Pair};
+use arrayvec::ArrayVec;
 use joining::{Word, join_rows};
+use refusal::Refusal;
+use std::marker::Model;
 
 // 64 masks make at most this many pairs.
 const MOST_PAIRS: usize = 32;
 
-// The first `count` of `pairs` are the pairs found so far, and `marks` says of each place whether it stands in one.
+// The masks that are to be paired, the pairs found so far, and marks that say of each place whether it stands in one.
+//
+// Contracts see the masks and the pairs. There are never more than `MOST_MASKS` masks, and the pairs are always lawful.
+// The functions ask of each place that it is below the number of masks: a type of places would have to hold the masks.
 #[derive(Drop)]
-pub(crate) struct Proposal {
-    pairs: [Pair; MOST_PAIRS],
-    count: usize,
+pub(crate) struct Proposal<'a> {
+    masks: &'a [u64],
+    pairs: ArrayVec<Pair, MOST_PAIRS>,
     marks: [bool; MOST_MASKS],
 }
 
-impl Proposal {
-    // No pair is found yet.
-    pub(crate) fn new() -> Proposal
-        ensures listed { listed result ≡ [] }
-        ensures marked { Marked result }
+impl<'a> Model for Proposal<'a> {
+    ghost use Rattle.pairing.specs.Found.{Found, Sound};
+
+    ghost Value = { Found };
+
+    ghost view = { λ p. record { masks = p.masks.now; pairs = p.pairs.items } };
+
+    ghost invariant = { λ p. Sound p.masks.now p.pairs.items p.marks };
+}
+
+impl<'a> Proposal<'a> {
+    // No pair is found yet. More than `MOST_MASKS` masks, or room for fewer pairs than half the masks, are refused.
+    pub(crate) fn new(masks: &'a [u64], room: usize) -> Result<Proposal<'a>, Refusal>
+        ensures { result ≡ (if accepted (length masks.now) room then Ok (record { masks = masks.now; pairs = [] }) else Err Row) }
     {
-        Proposal {
-            pairs: [Pair { left: 0, right: 0 }; MOST_PAIRS],
-            count: 0,
-            marks: [false; MOST_MASKS],
+        if masks.len() <= MOST_MASKS && masks.len() / 2 <= room {
+            Ok(Proposal {
+                masks,
+                pairs: ArrayVec::new(),
+                marks: [false; MOST_MASKS],
+            })
+        } else {
+            Err(Refusal::Row)
         }
     }
 
     // One pair more, and both its places marked.
-    fn add(&mut self, left: u8, right: u8)
-        requires room { self.old.count < 32 }
-        requires places { (left < 64) × (right < 64) }
-        ensures { self.new ≡ added self.old left right }
+    #[tactic(auto, using(crate::proofs::Marks::room_more))]
+    pub(crate) fn add(&mut self, left: usize, right: usize)
+        requires fair { Fair self.old.masks (record { left = left; right = right }) }
+        requires free { (paired left self.old.pairs ≡ false) × (paired right self.old.pairs ≡ false) }
+        ensures { self.new ≡ record self.old { pairs = with_pair self.old.pairs left right } }
     {
-        self.pairs[self.count] = Pair { left, right };
-        self.count += 1;
-        self.marks[left as usize] = true;
-        self.marks[right as usize] = true;
-    }
-
-    // A place with the partner that it takes, if it takes one.
-    pub(crate) fn take(&mut self, masks: &[u64], place: u8, partner: Option<u8>)
-        requires sound { Sound masks.now self.old }
-        requires few { length masks.now ≤ 64 }
-        requires lawful { Lawful masks.now (taken (listed self.old) place partner) }
-        ensures listed { listed self.new ≡ taken (listed self.old) place partner }
-        ensures sound { Sound masks.now self.new }
-    {
-        if let Some(other) = partner {
-            self.add(place, other);
-        }
+        self.pairs.push(Pair {
+            left: left as u8,
+            right: right as u8,
+        });
+        self.marks[left] = true;
+        self.marks[right] = true;
     }
 
     // Whether a place is unpaired.
-    pub(crate) fn is_free(&self, place: u8) -> bool
-        requires marked { Marked self.now }
-        requires within { place < 64 }
-        ensures { result ≡ not (paired place (listed self.now)) }
+    pub(crate) fn is_free(&self, place: usize) -> bool
+        requires { place < length self.now.masks }
+        ensures { result ≡ not (paired place self.now.pairs) }
     {
-        !self.marks[place as usize]
+        !self.marks[place]
     }
 
     // Whether a place may take another one: that is unpaired, and their masks join.
-    pub(crate) fn may_take(&self, masks: &[u64], place: u8, other: u8) -> bool
-        requires marked { Marked self.now }
-        requires few { length masks.now ≤ 64 }
-        requires within { (place < length masks.now) × (other < length masks.now) }
-        ensures { result ≡ takes masks.now (listed self.now) place other }
+    fn may_take(&self, place: usize, other: usize) -> bool
+        requires within { (place < length self.now.masks) × (other < length self.now.masks) }
+        ensures { result ≡ takes self.now.masks self.now.pairs place other }
     {
-        self.is_free(other) && masks_join(masks[place as usize], masks[other as usize])
+        self.is_free(other) && masks_join(self.masks[place], self.masks[other])
+    }
+
+    // The least unpaired place above this one whose mask joins.
+    pub(crate) fn least_partner(&self, place: usize) -> Option<usize>
+        requires { place < length self.now.masks }
+        ensures { result ≡ least_from self.now.masks self.now.pairs place (place + 1) }
+    {
+        let end = self.masks.len();
+        (place + 1..end).find(|&other| self.may_take(place, other))
     }
 
     // The two places are a pair if both are unpaired and their masks join.
-    pub(crate) fn offer(&mut self, masks: &[u64], left: u8, right: u8)
-        requires sound { Sound masks.now self.old }
-        requires few { length masks.now ≤ 64 }
-        requires within { (left < length masks.now) × (right < length masks.now) }
+    pub(crate) fn offer(&mut self, left: usize, right: usize)
+        requires within { (left < length self.old.masks) × (right < length self.old.masks) }
         requires differ { left ≢ right }
-        ensures listed { listed self.new ≡ offered masks.now (listed self.old) left right }
-        ensures sound { Sound masks.now self.new }
+        ensures { self.new ≡ record self.old { pairs = offered self.old.masks self.old.pairs left right } }
     {
-        if self.is_free(left) && self.may_take(masks, left, right) {
-            self.take(masks, left, Some(right));
+        if self.is_free(left) && self.may_take(left, right) {
+            self.add(left, right);
         }
     }
 
     // Writes the pairs from the buffer's start, and answers how many there are.
+    #[tactic(auto, using(crate::proofs::Marks::pairs_fit))]
     pub(crate) fn write_to(&self, buffer: &mut [Pair]) -> usize
-        requires marked { Marked self.now }
-        requires room { self.now.count ≤ length buffer.old }
-        ensures count { result ≡ length (listed self.now) }
-        ensures written { buffer.new ≡ written_over (listed self.now) buffer.old }
+        requires { length self.now.masks / 2 ≤ length buffer.old }
+        ensures count { result ≡ length self.now.pairs }
+        ensures written { buffer.new ≡ written_over self.now.pairs buffer.old }
     {
-        for i in 0..self.count {
-            buffer[i] = self.pairs[i];
-        }
-        self.count
+        let count = self.pairs.len();
+        buffer[..count].copy_from_slice(&self.pairs);
+        count
     }
 }
 

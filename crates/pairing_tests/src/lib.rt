@@ -32,6 +32,7 @@ mod tests {
     use draws::{Draws, shuffle};
     use joining::{Cell, Join, Word, join_rows};
     use pairing::{Greedy, SplitMesher};
+    use std::array;
     use std::fmt::Debug;
     use std::process::Abort;
 
@@ -56,12 +57,12 @@ mod tests {
         let mut buffer = [BLANK; 40];
         assert!(rt; room <= buffer.len());
         assert_eq!(rt;
-            pairing.propose(masks, &mut buffer[0..room]),
+            pairing.propose(masks, &mut buffer[..room]),
             Ok(pairs.len())
         );
-        for (i, written) in buffer.iter().enumerate() {
-            assert_eq!(rt; *written, if i < pairs.len() { pairs[i] } else { BLANK });
-        }
+        let (written, rest) = buffer.split_at(pairs.len());
+        assert_eq!(rt; written, pairs);
+        assert!(rt; rest.iter().all(|pair| *pair == BLANK));
     }
 
     // The pairing refuses a buffer for `room` pairs, and leaves it as it was.
@@ -69,22 +70,22 @@ mod tests {
         let mut buffer = [BLANK; 40];
         assert!(rt; room <= buffer.len());
         assert_eq!(rt;
-            pairing.propose(masks, &mut buffer[0..room]),
+            pairing.propose(masks, &mut buffer[..room]),
             Err(Refusal::Row)
         );
         assert_eq!(rt; buffer, [BLANK; 40]);
     }
 
     // The rows join, or are refused, and this is then in the first.
-    fn joins<T: Join + Copy + PartialEq + Debug>(
+    fn joins<T: Join + Copy + PartialEq + Debug, const N: usize>(
         rt: &impl Abort,
-        first: &mut [T],
+        mut first: [T; N],
         second: &[T],
         answer: Result<(), Refusal>,
-        after: &[T],
+        after: [T; N],
     ) {
-        assert_eq!(rt; join_rows(first, second), answer);
-        assert_eq!(rt; &*first, after);
+        assert_eq!(rt; join_rows(&mut first, second), answer);
+        assert_eq!(rt; first, after);
     }
 
     #[test]
@@ -92,31 +93,31 @@ mod tests {
         let five = Word { bits: 5 };
         joins(
             &rt,
-            &mut [five],
+            [five],
             &[Word { bits: 10 }],
             Ok(()),
-            &[Word { bits: 15 }],
+            [Word { bits: 15 }],
         );
         joins(
             &rt,
-            &mut [five],
+            [five],
             &[Word { bits: 4 }],
             Err(Refusal::Clash),
-            &[five],
+            [five],
         );
         joins(
             &rt,
-            &mut [Cell::Full(0)],
+            [Cell::Full(0)],
             &[Cell::Empty],
             Ok(()),
-            &[Cell::Full(0)],
+            [Cell::Full(0)],
         );
         joins(
             &rt,
-            &mut [Cell::Full(0)],
+            [Cell::Full(0)],
             &[Cell::Full(0)],
             Err(Refusal::Clash),
-            &[Cell::Full(0)],
+            [Cell::Full(0)],
         );
     }
 
@@ -125,24 +126,24 @@ mod tests {
         let row = [Cell::Full(1), Cell::Empty, Cell::Full(3)];
         joins(
             &rt,
-            &mut [row[0], row[1], row[2]],
+            row,
             &[Cell::Empty, Cell::Full(2)],
             Err(Refusal::Row),
-            &row,
+            row,
         );
         joins(
             &rt,
-            &mut [row[0], row[1], row[2]],
+            row,
             &[Cell::Empty, Cell::Full(2), Cell::Full(3)],
             Err(Refusal::Clash),
-            &row,
+            row,
         );
         joins(
             &rt,
-            &mut [row[0], row[1], row[2]],
+            row,
             &[Cell::Empty, Cell::Full(2), Cell::Empty],
             Ok(()),
-            &[Cell::Full(1), Cell::Full(2), Cell::Full(3)],
+            [Cell::Full(1), Cell::Full(2), Cell::Full(3)],
         );
     }
 
@@ -176,11 +177,7 @@ mod tests {
 
     // (0, 1), (2, 3) and so on.
     fn neighbours() -> [Pair; 32] {
-        let mut pairs = [BLANK; 32];
-        for i in 0..32 {
-            pairs[i] = pair(2 * i as u8, 2 * i as u8 + 1);
-        }
-        pairs
+        array::from_fn(|i| pair(2 * i as u8, 2 * i as u8 + 1))
     }
 
     #[test]

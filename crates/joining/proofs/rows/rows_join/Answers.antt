@@ -1,21 +1,12 @@
-use Rattle.std.proofs.Common.{sym, ◌∙◌, arith}
-use Rattle.joining.proofs.Places.{rows-join_more, rows_clash, rows_done}
+use Rattle.std.proofs.Common.{rules, tests, is_some, ◌∙◌}
+use Rattle.std.proofs.lemmas.Iterator.{YieldsList-from_slice, YieldsList-from_zip}
+use Rattle.std.proofs.lemmas.Iterator.Search.{all_from_yields_List}
+use Rattle.joining.proofs.Places.{rows_join}
 use Rattle.joining.proofs.rows.rows_join.Goals as goal
-
-pub returns-then-is_none : goal.returns-then-is_none
-returns-then-is_none g c =
-    sym (c.loop-i.invariant
-    ∙ rows_clash g.T.Join.joined c.args.first.now c.args.second.now c.loop-i.i
-    c.index-first-i.result c.index-second-i.result c.join.result (omega arith) (omega arith)
-    c.index-first-i.is c.index-second-i.is c.join.ensures c.if-is_none.ensures)
-
-pub loop-i-preserved : goal.loop-i-preserved
-loop-i-preserved g c =
-    c.loop-i.invariant
-    ∙ rows-join_more g.T.Join.joined c.args.first.now c.args.second.now c.loop-i.i
-    c.index-first-i.result c.index-second-i.result c.join.result (omega arith) (omega arith)
-    c.index-first-i.is c.index-second-i.is c.join.ensures c.if-is_none.ensures
 
 pub returns : goal.returns
 returns g c =
-    sym (c.loop-i.invariant ∙ rows_done g.T.Join.joined c.args.first.now c.args.second.now c.loop-i.i (omega arith) (omega arith))
+    all_from_yields_List (λ p. is_some (g.T.Join.joined p.0 p.1)) c.all.new.self _ c.all.result c.all.ensures.ran
+    (YieldsList-from_zip (YieldsList-from_slice c.args.first.now cc) (YieldsList-from_slice c.args.second.now cc))
+    (λ x b q k. search (rules, tests))
+    ∙ rows_join g.T.Join.joined c.args.first.now c.args.second.now c.requires

@@ -1,29 +1,13 @@
-use Rattle.std.proofs.Common.{◌≡◌, set, Ok, unwrap_or, ◌∙◌, arith}
-use Rattle.joining.proofs.Places.{over_more, over_some, over_none, over_all, answers_joined}
+use Rattle.std.proofs.Common.{get_or, set, Ok, unwrap_or, ◌∙◌, arith, ap}
+use Rattle.joining.proofs.Places.{over_more, over_all, answers_joined}
 use Rattle.joining.proofs.rows.write_joined.Goals as goal
-use Rattle.joining.proofs.rows.write_joined.Goals.{in-Some, in_default}
 
 pub loop-i-preserved : goal.loop-i-preserved
 loop-i-preserved g c =
-    let written :
-    c.match-join.first
-    ≡ set c.loop-i.first c.loop-i.i
-    (unwrap_or (g.T.Join.joined c.index-first-i.result c.index-second-i.result) c.index-first-i.result) =
-    elim c.match-join.branch [
-      | in-Some w ↦
-          w.first-is
-          ∙ over_some g.T.Join.joined c.loop-i.first c.loop-i.i c.index-first-i.result c.index-second-i.result
-          w.in-Some.both c.join.result c.join.ensures w.in-Some.is
-      | in_default w ↦
-          w.first-is
-          ∙ over_none g.T.Join.joined c.loop-i.first c.loop-i.i c.index-first-i.result c.index-second-i.result
-          c.join.result c.index-first-i.is c.join.ensures w.in_default.is
-    ]
-    in
-    written
+    let here = get_or c.loop-i.first c.loop-i.i c.index-first-i.result in
+    ap (set c.loop-i.first c.loop-i.i) (c.unwrap_or.ensures ∙ ap (λ o. unwrap_or o here) c.join.ensures)
     ∙ over_more g.T.Join.joined c.args.first.now c.args.second.now c.loop-i.first c.loop-i.i
-    c.index-first-i.result c.index-second-i.result c.requires.same (omega arith) c.loop-i.invariant
-    c.index-first-i.is c.index-second-i.is
+    c.index-first-i.result c.index-second-i.result c.requires.same (omega arith) c.loop-i.invariant c.index-second-i.is
 
 pub returns : goal.returns
 returns g c =

@@ -1,14 +1,38 @@
-use Rattle.std.proofs.Common.{◌/◌, length, sym, ap, ◌∙◌}
-use Rattle.pairing.specs.Found.{listed}
+use Rattle.std.proofs.Common.{get_or, ◌+◌, ◌%◌, ◌≡◌, ◌/◌, length, fold, ap, ap₂, ◌∙◌, arith}
+use Rattle.std.specs.List.{range_with_len}
+use Rattle.pairing.specs.Found.{Found}
+use Rattle.pairing.specs.Pairs.{offered}
 use Rattle.pairing.specs.Halves.{shifted_turn}
-use Rattle.pairing.specs.Folds.{folded_counting_more}
+use Rattle.pairing.proofs.Marks.{turn_more}
+use Rattle.pairing.proofs.Offers.{length-left, offers, may_offer}
 use Rattle.pairing.proofs.halves.offer_pass.Goals as goal
+
+pub offer-requires : goal.offer-requires
+offer-requires c =
+    let p = may_offer c.requires c.split_at.ensures.front c.split_at.ensures.back _ c.loop-j-test.true c.from-in-loop-j.ensures
+    c.from-in-loop-j-2.ensures (ap (λ (f : Found). length f.masks) c.loop-j.invariant) in
+    record { within = (p.0, p.1); differ = p.2 }
 
 pub loop-j-preserved : goal.loop-j-preserved
 loop-j-preserved c =
-    let turn = shifted_turn c.args.masks.now c.args.order.now (length c.args.masks.now / 2) c.args.shift in (
-      c.offer_shifted.ensures.listed
-          ∙ ap (λ ps. turn ps c.loop-j.j) c.loop-j.invariant.0
-          ∙ sym (folded_counting_more turn (listed c.args.found.now) c.loop-j.j),
-      c.offer_shifted.ensures.sound,
-    )
+    let at = offers c.requires c.split_at.ensures.front c.split_at.ensures.back _ c.loop-j-test.true c.from-in-loop-j.ensures
+    c.from-in-loop-j-2.ensures in
+    let half = length c.args.found.now.masks / 2 in
+    let found = c.loop-j.found in
+    turn_more (λ ms ps j. shifted_turn ms c.args.order.now half c.args.shift ps j)
+    c.args.found.now.masks c.args.found.now.pairs c.loop-j.j c.loop-j.invariant
+    (c.offer.ensures
+    ∙ ap₂ (λ a b. record found { pairs = offered found.masks found.pairs a b }) at.0
+    (at.1 ∙ ap (λ s. get_or c.args.order.now (half + (c.loop-j.j + s) % half) 0) c.from.ensures))
+
+pub returns : goal.returns
+returns c =
+    let ms = c.args.found.now.masks in
+    let half = length-left c.requires c.split_at.ensures.front c.split_at.ensures.back in
+    let end : c.loop-j.j ≡ length ms / 2 = omega (arith, half, c.loop-j-test.false, c.loop-j.auto.j-end) in
+    c.loop-j.invariant
+    ∙ ap
+    (λ n. record c.args.found.now {
+      pairs = fold (shifted_turn ms c.args.order.now (length ms / 2) c.args.shift) c.args.found.now.pairs (range_with_len 0 n);
+    })
+    end

@@ -1,11 +1,7 @@
-use Rattle.std.proofs.Common.{length, sym}
-use Rattle.pairing.proofs.Marks.{room_all}
+use Rattle.std.proofs.Common.{[]}
+use Rattle.pairing.specs.Search.{turn}
+use Rattle.pairing.proofs.Marks.{turn_more}
 use Rattle.pairing.proofs.least.GreedyPairing.propose.Goals as goal
 
-pub write_to-requires : goal.write_to-requires
-write_to-requires c =
-    record {
-      marked = c.search-found.ensures.sound.marked;
-      room = room_all c.args.masks.now c.search-found.result (length c.args.buffer.now) c.search-found.ensures.sound
-          (sym c.if-not-is_accepted.ensures);
-    }
+pub loop-place-preserved : goal.loop-place-preserved
+loop-place-preserved c = turn_more turn c.args.masks.now [] c.loop-place.place c.loop-place.invariant c.take_turn.ensures

@@ -1,6 +1,6 @@
-use Rattle.std.proofs.Common.{false, refl, arith}
-use Rattle.std.proofs.lemmas.List.{get_or-replicate}
+use Rattle.std.proofs.Common.{arith}
+use Rattle.pairing.proofs.Marks.{sound_none}
 use Rattle.pairing.proofs.proposal.Proposal.new.Goals as goal
 
-pub returns : goal.returns
-returns c = record { listed = refl; marked = record { room = refl; places = refl; few = omega arith; marks = λ k h. get_or-replicate 64 k false false h } }
+pub invariant_of-result : goal.invariant_of-result
+invariant_of-result c = sound_none c.args.masks.now c.new.result.items (omega arith) c.new.ensures
