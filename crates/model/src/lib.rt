@@ -1,6 +1,12 @@
 // The plain values of a pool, as the pool keeps them and as its definition in specs/ speaks of them.
 #![tactic(auto)]
 
+ghost use Rattle.std.specs.Prelude.{◌≡◌};
+ghost use Rattle.model.specs.Mesh.{both};
+ghost use Rattle.model.specs.Sums.{CanAdd};
+
+use std::ops::Add;
+
 // A live patch: the span and the slot where it stands, and how many bytes it has.
 #[derive(Clone, Copy, PartialEq, Eq, Debug)]
 pub struct Patch {
@@ -10,7 +16,8 @@ pub struct Patch {
 }
 
 // The row of a frame that is out: the class of its slots, its mask of occupied slots (bit s is slot s), and its home
-// span.
+// span. A class is a number and no enum: it is an index into a geometry's list of slot sizes, of any length, and the
+// definitions and the laws stand over every geometry. (A call that takes a class takes any number, too.)
 #[derive(Clone, Copy, PartialEq, Eq, Debug)]
 pub struct Row {
     pub class: u8,
@@ -38,7 +45,8 @@ pub enum Event {
     Empty(u32),
 }
 
-// What `new` answers: the address of the patch, and whether a span was opened for it.
+// What `new` answers: the address of the patch, and whether a span was opened for it. Both always say something, so
+// they are one answer of two facts and no Option.
 #[derive(Clone, Copy, PartialEq, Eq, Debug)]
 pub struct Made {
     pub address: u32,
@@ -46,10 +54,26 @@ pub struct Made {
 }
 
 // What `mesh` answers: how many merges were made, and how many bytes they copied.
-#[derive(Clone, Copy, PartialEq, Eq, Debug)]
+#[derive(Clone, Copy, PartialEq, Eq, Debug, Default)]
 pub struct Meshed {
     pub merges: u32,
     pub bytes: u32,
+}
+
+// What two meshes did together.
+impl Add for Meshed {
+    type Output = Meshed;
+
+    ghost can_add = { CanAdd };
+
+    ghost add_gives = { λ a b r. r ≡ both a b };
+
+    fn add(self, more: Meshed) -> Meshed {
+        Meshed {
+            merges: self.merges + more.merges,
+            bytes: self.bytes + more.bytes,
+        }
+    }
 }
 
 // What `count` answers: frames out, spans that are not idle, live labels.

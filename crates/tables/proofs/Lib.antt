@@ -1,2 +1,3 @@
 pub mod Views
-pub mod Loops
+pub mod Places
+pub mod Bits

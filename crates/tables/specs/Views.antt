@@ -1,5 +1,5 @@
 -- What the tables of a pool hold, as the definition of a pool speaks of it.
-use Rattle.std.specs.Prelude.{ℕ, List, None, vec_items, Option, slice_index_or}
+use Rattle.std.specs.Prelude.{ℕ, List, None, Option, slice_index_or}
 use Rattle.model.specs.declared.Patch.{Patch}
 use Rattle.model.specs.declared.Row.{Row}
 use Rattle.model.specs.declared.Span.{Span}
@@ -16,6 +16,6 @@ labels_of t l = slice_index_or t.table l None
 abbrev pub spans_of : Spans → ℕ → Span
 spans_of t h = slice_index_or t.table h Idle
 
--- the row of each frame
+-- the row of each frame: a table of rows is seen as that list, and has its name here beside the two others
 abbrev pub rows_of : Rows → List (Option Row)
-rows_of t = vec_items t.table
+rows_of t = t

@@ -1,5 +1,5 @@
 // The label table: the patch of each live label.
-ghost use Rattle.std.specs.Prelude.{◌≡◌, ◌+◌, ◌*◌, ◌≤◌, ◌&&◌, is_some, None, nat_le, nat_lt};
+ghost use Rattle.std.specs.Prelude.{◌≡◌, is_some, None};
 ghost use Rattle.bank.specs.Tables.{put};
 ghost use Rattle.model.specs.Geometry.{desktop};
 ghost use Rattle.model.specs.Calls.{tally, holds as holds_in, owner as owner_of};
@@ -39,43 +39,27 @@ impl Labels {
     pub fn live(&self) -> u32
         ensures { result ≡ tally desktop.labels (λ l. is_some (labels_of self.now l)) }
     {
-        let mut live = 0;
-        for patch in self.table.iter() {
-            if patch.is_some() {
-                live += 1;
-            }
-        }
-        live
+        self.table.iter().filter(|patch| patch.is_some()).count() as u32
     }
 
     // The lowest label whose patch holds so many bytes from the address on.
     pub fn owner(&self, address: u32, count: usize) -> Option<u8>
         ensures { result ≡ owner_of desktop address count (labels_of self.now) }
     {
-        for (label, patch) in self.table.iter().enumerate() {
-            if holds(patch, address, count) {
-                return Some(label as u8);
-            }
-        }
-        None
+        self.table
+            .iter()
+            .position(|patch| holds(*patch, address, count))
+            .map(|label| label as u8)
     }
 }
 
 // Whether a patch's bytes include the address and so many bytes from there.
-fn holds(patch: &Option<Patch>, address: u32, count: usize) -> bool
-    ensures { result ≡ holds_in desktop address count patch.now }
+fn holds(patch: Option<Patch>, address: u32, count: usize) -> bool
+    ensures { result ≡ holds_in desktop address count patch }
 {
-    match patch {
-        Some(patch) => lies_in(address, count, address_of(*patch), patch.length),
-        None => false,
-    }
-}
-
-// Whether the address and so many bytes from there lie in a stretch.
-fn lies_in(address: u32, count: usize, start: u32, length: u16) -> bool
-    requires { start ≤ 2048 * 255 }
-    ensures { result ≡ (nat_le start address && (nat_lt address (start + length) && nat_le (address + count) (start + length))) }
-{
-    let end = start + length as u32;
-    start <= address && address < end && count <= (end - address) as usize
+    patch.is_some_and(|patch| {
+        let start = address_of(patch);
+        let end = start + patch.length as u32;
+        start <= address && address < end && count <= (end - address) as usize
+    })
 }

@@ -4,6 +4,7 @@ ghost use Rattle.model.specs.Geometry.{desktop, places};
 ghost use Rattle.model.specs.Masks.{bit, set_bits, free_place, with_slot as with_bit, without_slot as without_bit};
 
 // How many slots are occupied: the mask's own count of ones.
+#[tactic(auto, using(model::proofs::Masks::set_bits_ones), unfolding(model::specs::Geometry::slot_size))]
 pub fn occupied(mask: u64) -> u32
     ensures count { result ≡ set_bits (places desktop) mask }
     ensures high { result ≤ 64 }
@@ -16,16 +17,10 @@ pub fn free_slot(mask: u64, below: u32) -> u8
     ensures slot { result ≡ free_place (places desktop) mask below }
     ensures high { result < 64 }
 {
-    let mut left = below;
-    for slot in 0..64u8 {
-        if mask >> slot & 1 == 0 {
-            if left == 0 {
-                return slot;
-            }
-            left -= 1;
-        }
-    }
-    0
+    (0..64u8)
+        .filter(|slot| !is_occupied(mask, *slot))
+        .nth(below as usize)
+        .unwrap_or(0)
 }
 
 // The mask with one more slot occupied.
@@ -37,6 +32,7 @@ pub fn with_slot(mask: u64, slot: u8) -> u64
 }
 
 // Whether a slot is occupied; a mask has no slots past its 64 bits.
+#[tactic(auto, using(crate::proofs::Bits::bit_past))]
 pub fn is_occupied(mask: u64, slot: u8) -> bool
     ensures { result ≡ bit mask slot }
 {
@@ -44,6 +40,7 @@ pub fn is_occupied(mask: u64, slot: u8) -> bool
 }
 
 // The mask with a slot free.
+#[tactic(auto, using(crate::proofs::Bits::set_below))]
 pub fn without_slot(mask: u64, slot: u8) -> u64
     ensures { result ≡ without_bit mask slot }
 {

@@ -1,8 +1,6 @@
 // The frame table: the row of each frame that is out.
-ghost use Rattle.std.specs.Prelude.{◌≡◌, ℕ, ◌≤◌, true, length, take, set as set_at, replicate, is_some, IfSome, IfOk, Some, None, vec_len, nat_lt, slice_index_or};
-ghost use Rattle.std.specs.Borrow.{sem, follows_if};
-ghost use Rattle.std.specs.Vec.{with_item};
-ghost use Rattle.std.specs.Option.{ghost_name_of as name_of};
+ghost use Rattle.std.specs.Prelude.{◌≡◌, ℕ, ◌≤◌, true, length, set as set_at, replicate, is_some, IfSome, Some, None, nat_lt, slice_index_or};
+ghost use Rattle.std.specs.Borrow.{sem, LendsIf};
 ghost use Rattle.std.specs.contracts.option.Option.{the_row as option};
 ghost use Rattle.model.specs.contracts.Row.{the_row as row_row};
 ghost use Rattle.tables.specs.contracts.rows.Rows.{the_row as table_row};
@@ -13,39 +11,52 @@ ghost use Rattle.tables.specs.Views.{rows_of};
 
 use crate::geometry::slots;
 use crate::masks::occupied;
+use arrayvec::ArrayVec;
 use model::Row;
-use std::alloc::{AllocError, Global};
+use std::marker::Model;
 
-// The rows lie in memory of the table's own, taken once, when it is made.
+// A place for each frame that a bank can have, and in it the frame's row, if it is out. The places stand in an
+// `ArrayVec`, which lends one of them: a proof does not follow an element of a plain array that `lend` would return back to
+// its owner (tried).
 #[derive(Drop)]
 pub struct Rows {
-    table: Vec<Option<Row>>,
+    table: ArrayVec<Option<Row>, 64>,
+}
+
+// A table is the list of its 64 places.
+impl Model for Rows {
+    ghost use Rattle.std.specs.Prelude.{◌≡◌, List, Option, length};
+    ghost use Rattle.model.specs.declared.Row.{Row as RowValue};
+
+    ghost Value = { List (Option RowValue) };
+
+    ghost view = { λ t. t.table.items };
+
+    ghost invariant = { λ t. length t.table.items ≡ 64 };
 }
 
 impl Rows {
     // A table with a place for each frame, and no row.
-    pub fn new(heap: Global) -> Result<Rows, AllocError>
-        ensures { IfOk result (λ t. rows_of t ≡ replicate desktop.frames None) }
+    pub fn new() -> Rows
+        ensures { rows_of result ≡ replicate desktop.frames None }
     {
-        Ok(Rows {
-            table: Vec::from_slice(heap, &[None; 64])?,
-        })
+        Rows {
+            table: ArrayVec::from([None; 64]),
+        }
     }
 
     // The row of a frame, if it has one.
     pub fn row(&self, frame: u32) -> Option<Row>
         ensures { result ≡ slice_index_or (rows_of self.now) frame None }
     {
-        match self.table.get(frame as usize) {
-            Some(row) => *row,
-            None => None,
-        }
+        self.table.get(frame as usize).copied().flatten()
     }
 
     // Lends the place of one frame's row, to be changed there.
     pub fn lend(&mut self, frame: u32) -> Option<&mut Option<Row>>
-        ensures* writes_back { sem 𝓛 (follows_if table_row (option row_row) self.entry.ghost_name (name_of result) (λ w. record { table = with_item self.old.table frame w }) self.old) }
-        ensures facts { (is_some result ≡ nat_lt frame (vec_len self.old.table)) × IfSome result (λ x. x.now ≡ slice_index_or (rows_of self.old) frame x.now) }
+        ensures* writes_back { sem 𝓛 (LendsIf table_row (option row_row) self.entry result (set_at (rows_of self.old) frame) self.old) }
+        ensures places { length (rows_of self.old) ≡ desktop.frames }
+        ensures facts { (is_some result ≡ nat_lt frame desktop.frames) × IfSome result (λ x. x.now ≡ slice_index_or (rows_of self.old) frame x.now) }
     {
         self.table.get_mut(frame as usize)
     }
@@ -65,36 +76,42 @@ impl Rows {
         ensures best { result ≡ best_serving desktop class (rows_of self.now) }
         ensures serves { (f : ℕ) (row : Row) → result ≡ Some (f, row) → row_serves desktop class row ≡ true }
     {
-        let mut best: Option<(u32, Row)> = None;
-        for frame in 0..64u32 {
-            best = better(class, frame, self.row(frame), best);
-        }
-        best
+        self.table.iter().enumerate().fold(
+            None,
+            |best, (frame, row)| better(class, frame as u32, *row, best),
+        )
     }
 
-    // Lists the frames of a class in rising number, from the buffer's start, and answers how many there are.
-    pub fn list(&self, class: u8, frames: &mut [u32]) -> usize
-        requires { length frames.old ≡ 64 }
-        ensures few { result ≤ 64 }
-        ensures frames { take result frames.new ≡ listed desktop class (rows_of self.now) }
+    // The frames of a class, in rising number.
+    pub fn list(&self, class: u8) -> ArrayVec<u32, 64>
+        ensures frames { result.items ≡ listed desktop class (rows_of self.now) }
+        ensures few { length result.items ≤ 64 }
     {
-        let mut count = 0;
-        for frame in 0..64u32 {
-            if is_of_class(class, self.row(frame)) {
-                frames[count] = frame;
-                count += 1;
+        let mut frames = ArrayVec::new();
+        for (frame, row) in self.table.iter().enumerate() {
+            if is_of_class(class, *row) {
+                frames.push(frame as u32);
             }
         }
-        count
+        frames
     }
 
-    // The masks of frames.
+    // The mask of a frame; one that has no row has no slot occupied.
+    fn mask(&self, frame: u32) -> u64
+        ensures { result ≡ mask_of (slice_index_or (rows_of self.now) frame None) }
+    {
+        self.row(frame).map_or(0, |row| row.mask)
+    }
+
+    // The masks of frames, in their order, into a buffer as long as their list. (The buffer is the caller's: a list of
+    // any length may be passed, so one that is answered would need the heap.)
     pub fn masks(&self, frames: &[u32], masks: &mut [u64])
         requires { length masks.old ≡ length frames.now }
         ensures { masks.new ≡ masks_of (rows_of self.now) frames.now }
     {
-        for i in 0..frames.len() {
-            masks[i] = mask_or_none(self.row(frames[i]));
+        // By index, since after a loop over `iter_mut().zip(..)` a proof knows no element (tried in `joining`).
+        for (i, mask) in masks.iter_mut().enumerate() {
+            *mask = self.mask(frames[i]);
         }
     }
 
@@ -102,14 +119,15 @@ impl Rows {
     pub fn out(&self) -> u32
         ensures { result ≡ tally desktop.frames (λ f. is_some (slice_index_or (rows_of self.now) f None)) }
     {
-        let mut out = 0;
-        for frame in 0..64u32 {
-            if self.row(frame).is_some() {
-                out += 1;
-            }
-        }
-        out
+        self.table.iter().filter(|row| row.is_some()).count() as u32
     }
+}
+
+// Whether there is a row, of the class.
+fn is_of_class(class: u8, row: Option<Row>) -> bool
+    ensures { result ≡ of_class class row }
+{
+    row.is_some_and(|row| row.class == class)
 }
 
 // Whether a row is of the class and has a free slot.
@@ -123,40 +141,12 @@ fn serves(class: u8, row: Row) -> bool
 fn better(class: u8, frame: u32, row: Option<Row>, held: Option<(u32, Row)>) -> Option<(u32, Row)>
     ensures { result ≡ better_of desktop class frame row held }
 {
-    let Some(other) = row else {
+    let Some(row) = row.filter(|row| serves(class, *row)) else {
         return held;
     };
-    if !serves(class, other) {
-        return held;
-    }
-    match held {
-        None => Some((frame, other)),
-        Some((best, best_row)) => {
-            if occupied(best_row.mask) < occupied(other.mask) {
-                Some((frame, other))
-            } else {
-                Some((best, best_row))
-            }
-        }
-    }
-}
-
-// Whether there is a row, of the class.
-fn is_of_class(class: u8, row: Option<Row>) -> bool
-    ensures { result ≡ of_class class row }
-{
-    match row {
-        Some(row) => row.class == class,
-        None => false,
-    }
-}
-
-// The mask of a row; with no row, no slot is occupied.
-fn mask_or_none(row: Option<Row>) -> u64
-    ensures { result ≡ mask_of row }
-{
-    match row {
-        Some(row) => row.mask,
-        None => 0,
+    if held.is_none_or(|(_, best)| occupied(best.mask) < occupied(row.mask)) {
+        Some((frame, row))
+    } else {
+        held
     }
 }

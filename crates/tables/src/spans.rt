@@ -14,42 +14,21 @@ pub struct Spans {
     table: [Span; 128],
 }
 
-// Changes a span in place, as an event asks.
+// Changes a span in place, as an event asks. (One match, and no closure for each event, since events are data: they are
+// passed on, and the definitions speak of them.)
 pub fn apply(span: &mut Span, event: Event)
     ensures { span.new ≡ after event span.old }
 {
-    match (&*span, event) {
+    match (*span, event) {
         (Span::Idle, Event::Open(frame)) => *span = Span::Home(frame),
-        (Span::Home(frame), Event::Merge(source, destination)) => {
-            if *frame == source {
-                *span = Span::Alias(destination);
-            }
+        (Span::Home(frame) | Span::Alias(frame), Event::Merge(source, destination))
+            if frame == source => {
+            *span = Span::Alias(destination);
         }
-        (Span::Alias(frame), Event::Merge(source, destination)) => {
-            if *frame == source {
-                *span = Span::Alias(destination);
-            }
-        }
-        (Span::Home(frame), Event::Empty(gone)) => {
-            if *frame == gone {
-                *span = Span::Idle;
-            }
-        }
-        (Span::Alias(frame), Event::Empty(gone)) => {
-            if *frame == gone {
-                *span = Span::Idle;
-            }
+        (Span::Home(frame) | Span::Alias(frame), Event::Empty(gone)) if frame == gone => {
+            *span = Span::Idle;
         }
         _ => {}
-    }
-}
-
-// Changes each span of a row as an event asks.
-fn apply_each(spans: &mut [Span], event: Event)
-    ensures { spans.new ≡ map (after event) spans.old }
-{
-    for span in spans.iter_mut() {
-        apply(span, event);
     }
 }
 
@@ -57,11 +36,7 @@ fn apply_each(spans: &mut [Span], event: Event)
 fn is_idle(span: &Span) -> bool
     ensures { result ≡ idle span.now }
 {
-    match span {
-        Span::Idle => true,
-        Span::Home(_) => false,
-        Span::Alias(_) => false,
-    }
+    matches!(span, Span::Idle)
 }
 
 impl Spans {
@@ -79,10 +54,8 @@ impl Spans {
         ensures { result ≡ frame_in (spans_of self.now span) }
     {
         match self.table.get(span as usize) {
-            Some(Span::Home(frame)) => Some(*frame),
-            Some(Span::Alias(frame)) => Some(*frame),
-            Some(Span::Idle) => None,
-            None => None,
+            Some(Span::Home(frame) | Span::Alias(frame)) => Some(*frame),
+            Some(Span::Idle) | None => None,
         }
     }
 
@@ -91,12 +64,7 @@ impl Spans {
         ensures found { result ≡ lowest (spans_of self.now) desktop.spans }
         ensures bound { (h : ℕ) → result ≡ Some h → h < 128 }
     {
-        for (h, span) in self.table.iter().enumerate() {
-            if is_idle(span) {
-                return Some(h as u8);
-            }
-        }
-        None
+        self.table.iter().position(is_idle).map(|span| span as u8)
     }
 
     // An idle span becomes the home of a frame.
@@ -111,13 +79,7 @@ impl Spans {
     pub fn taken(&self) -> u32
         ensures { result ≡ tally desktop.spans (λ h. not (idle (spans_of self.now h))) }
     {
-        let mut taken = 0;
-        for span in self.table.iter() {
-            if !is_idle(span) {
-                taken += 1;
-            }
-        }
-        taken
+        self.table.iter().filter(|span| !is_idle(span)).count() as u32
     }
 
     // The source frame was laid onto the destination: its home and its aliases become aliases of the destination.
@@ -139,6 +101,8 @@ impl Spans {
         requires { after event Idle ≡ Idle }
         ensures { spans_of self.new ≡ spans_after event (spans_of self.old) }
     {
-        apply_each(&mut self.table, event);
+        for span in self.table.iter_mut() {
+            apply(span, event);
+        }
     }
 }

@@ -1,34 +1,21 @@
-use Rattle.std.proofs.Common.{◌+◌, not, get_or, sym, ap, ◌∙◌, arith}
+use Rattle.std.proofs.Common.{ℕ, Bool, not, unwrap_or, refl, sym, ap, ◌∙◌, rules}
+use borrow.Author.Tests.{tests}
+use Rattle.std.proofs.lemmas.Iterator.{YieldsList-from_range}
+use Rattle.std.proofs.lemmas.Iterator.Adapters.{option_map_id}
+use Rattle.std.proofs.lemmas.Iterator.Consumers.{YieldsList-from_filter, nth_from_yields_List}
+use Rattle.std.proofs.lemmas.Option.{unwrap_or-slice_get}
+use Rattle.std.specs.List.{filter, range_with_len}
 use Rattle.model.specs.Geometry.{slot_size}
-use Rattle.model.specs.Masks.{bit}
-use Rattle.model.proofs.Places.{passing}
-use Rattle.tables.proofs.Loops.{free-start, free_found, free_later, free_passed, free-end}
+use Rattle.model.specs.Masks.{bit, free_place, free_places}
 use Rattle.tables.proofs.masks.free_slot.Goals as goal
-use Rattle.tables.proofs.masks.free_slot.Goals.{then-mask-slot-eq0+else-left-eq0, else-mask-slot-eq0}
 
-pub loop-slot-init : goal.loop-slot-init
-loop-slot-init c = free-start c.args.mask c.args.below
-
-pub returns-then-left-eq0 : goal.returns-then-left-eq0
-unfolding slot_size
-returns-then-left-eq0 c =
-    record {
-      slot = sym (free_found c.args.mask c.loop-slot.slot c.loop-slot.left c.loop-slot-test.true c.if-mask-slot-eq0.true c.if-left-eq0.true) ∙ c.loop-slot.invariant;
-      high = c.loop-slot-test.true;
-    }
-
-pub loop-slot-preserved : goal.loop-slot-preserved
-loop-slot-preserved c =
-    let rest = passing (λ s. not (bit c.args.mask s)) 64 (c.loop-slot.slot + 1) in
-    elim c.if-mask-slot-eq0.branch [
-      | then-mask-slot-eq0+else-left-eq0 w ↦ ap (λ k. get_or rest k 0) w.left-is ∙ free_later c.args.mask c.loop-slot.slot c.loop-slot.left c.loop-slot-test.true w.if-mask-slot-eq0.true w.if-left-eq0.false ∙ c.loop-slot.invariant
-      | else-mask-slot-eq0 w ↦ ap (λ k. get_or rest k 0) w.left-is ∙ free_passed c.args.mask c.loop-slot.slot c.loop-slot.left c.loop-slot-test.true w.if-mask-slot-eq0.false ∙ c.loop-slot.invariant
-    ]
-
-pub returns : goal.returns
-unfolding slot_size
-returns c =
-    record {
-      slot = sym (free-end c.args.mask c.loop-slot.slot c.loop-slot.left c.loop-slot-test.false) ∙ c.loop-slot.invariant;
-      high = omega arith;
-    }
+pub returns-clause-slot : goal.returns-clause-slot
+unfolding slot_size free_place free_places
+returns-clause-slot c =
+    let free : ℕ → Bool = λ s. not (bit c.args.mask s) in
+    c.unwrap_or.ensures
+    ∙ ap (λ o. unwrap_or o 0)
+    (sym (option_map_id c.nth.result)
+    ∙ nth_from_yields_List c.nth.result _ c.args.below c.nth.ensures.ran
+    (YieldsList-from_filter _ free (YieldsList-from_range 0 64 64 c.filter.ensures.source refl) c.filter.ensures.closure (λ x b q k. search (rules, tests))))
+    ∙ unwrap_or-slice_get (filter free (range_with_len 0 64)) c.args.below 0

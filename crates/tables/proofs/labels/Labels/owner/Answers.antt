@@ -1,25 +1,20 @@
-use Rattle.std.proofs.Common.{ℕ, Bool, get_or, None, sym, ap, ◌∙◌}
+use Rattle.std.proofs.Common.{◌≡◌, Bool, Option, length, None, arith, rules, sym, ◌∙◌}
+use borrow.Author.Tests.{tests}
+use Rattle.std.proofs.lemmas.Iterator.{YieldsList-from_slice}
+use Rattle.std.proofs.lemmas.Iterator.Search.{position_from_yields_List}
+use Rattle.model.specs.declared.Patch.{Patch}
 use Rattle.model.specs.Geometry.{desktop}
-use Rattle.model.specs.Calls.{first_of, holds, owner}
-use Rattle.model.proofs.Places.{passing_all, passing_yes, passing_no, passing-end}
+use Rattle.model.specs.Calls.{owner, holds}
+use Rattle.tables.proofs.Places.{first-table}
 use Rattle.tables.proofs.labels.Labels.owner.Goals as goal
 
-pub loop-label-init : goal.loop-label-init
-unfolding owner
-loop-label-init c =
-    ap first_of (passing_all (λ q. holds desktop c.args.address c.args.count (get_or c.args.self.now.table q None)) 256)
-
-pub returns-then-holds : goal.returns-then-holds
-returns-then-holds c =
-    let held : ℕ → Bool = λ q. holds desktop c.args.address c.args.count (get_or c.args.self.now.table q None) in
-    sym (ap first_of (passing_yes held 256 c.loop-label.label c.loop-label-test.true (sym c.if-holds.ensures))) ∙ c.loop-label.invariant
-
-pub loop-label-preserved : goal.loop-label-preserved
-loop-label-preserved c =
-    let held : ℕ → Bool = λ q. holds desktop c.args.address c.args.count (get_or c.args.self.now.table q None) in
-    sym (ap first_of (passing_no held 256 c.loop-label.label c.loop-label-test.true (sym c.if-holds.ensures))) ∙ c.loop-label.invariant
-
 pub returns : goal.returns
+unfolding owner
 returns c =
-    let held : ℕ → Bool = λ q. holds desktop c.args.address c.args.count (get_or c.args.self.now.table q None) in
-    sym (ap first_of (passing-end held 256 c.loop-label.label c.loop-label-test.false)) ∙ c.loop-label.invariant
+    let table = c.args.self.now.table in
+    let held : Option Patch → Bool = holds desktop c.args.address c.args.count in
+    let cast : c.map.result ≡ c.position.result = search rules in
+    let all : length table ≡ 256 = omega arith in
+    cast
+    ∙ position_from_yields_List held _ _ c.position.result c.position.ensures.ran (YieldsList-from_slice table cc) (λ x b q k. search (rules, tests))
+    ∙ sym (first-table None held table 256 all)

@@ -1,41 +1,35 @@
-use Rattle.std.proofs.Common.{◌≡◌, ℕ, ◌+◌, Bool, length, get_or, take, None, sym, ap, ◌∙◌, arith, length-set}
+use Rattle.std.proofs.Common.{◌≡◌, ℕ, ◌+◌, Bool, true, false, List, Option, length, get_or, None, ap, ◌∙◌, arith, rules}
 use Rattle.std.specs.List.{range_with_len, filter}
+use Rattle.model.specs.declared.Row.{Row}
 use Rattle.model.specs.Mesh.{of_class, listed}
-use Rattle.tables.specs.Views.{rows_of}
-use Rattle.tables.proofs.Loops.{listed_yes, listed_no}
+use Rattle.tables.proofs.Places.{listed_more}
 use Rattle.tables.proofs.rows.Rows.list.Goals as goal
 use Rattle.tables.proofs.rows.Rows.list.Goals.{then-is_of_class, else-is_of_class}
 
 pub loop-frame-preserved : goal.loop-frame-preserved
 loop-frame-preserved c =
+    let test : ℕ → Bool = λ f. of_class c.args.class (get_or c.deref-row-items.result.now f None) in
     let inv = c.loop-frame.invariant in
-    let n = c.loop-frame.frame in
-    let count = c.loop-frame.count in
-    let frames = c.loop-frame.frames in
-    let test : ℕ → Bool = λ f. of_class c.args.class (get_or (rows_of c.args.self.now) f None) in
-    let here : c.is_of_class.result ≡ test n = c.is_of_class.ensures ∙ ap (of_class c.args.class) c.row.ensures in
     elim c.if-is_of_class.branch [
       | then-is_of_class w ↦ (
-        omega (arith, w.count-is, inv.0),
-        ap length w.frames-is ∙ length-set frames count n ∙ inv.1,
-        ap (λ k. take k c.if-is_of_class.frames) w.count-is ∙ ap (take (count + 1)) w.frames-is
-            ∙ listed_yes test n count frames inv.2 (omega (arith, inv.0, inv.1)) (sym here ∙ w.if-is_of_class.true),
+        listed_more test c.loop-frame.frame _ _ true inv.0 (search rules) (ap (λ v. v.items) w.frames-is ∙ w.push.ensures.items),
+        let new : length c.if-is_of_class.frames.items ≡ length c.loop-frame.frames.items + 1 = ap (λ v. length v.items) w.frames-is ∙ w.push.ensures.len in
+            omega (arith, new, inv.1),
       )
       | else-is_of_class w ↦ (
-        omega (arith, w.count-is, inv.0),
-        ap length w.frames-is ∙ inv.1,
-        ap (λ k. take k c.if-is_of_class.frames) w.count-is ∙ ap (take count) w.frames-is
-            ∙ listed_no test n count frames inv.2 (sym here ∙ w.if-is_of_class.false),
+        listed_more test c.loop-frame.frame _ _ false inv.0 (search rules) (search rules),
+        let new : length c.if-is_of_class.frames.items ≡ length c.loop-frame.frames.items = ap (λ v. length v.items) w.frames-is in
+            omega (arith, new, inv.1),
       )
     ]
 
-pub returns : goal.returns
+pub returns-clause-frames : goal.returns-clause-frames
 unfolding listed
-returns c =
-    let inv = c.loop-frame.invariant in
-    let test : ℕ → Bool = λ f. of_class c.args.class (get_or (rows_of c.args.self.now) f None) in
-    let end : c.loop-frame.frame ≡ 64 = omega arith in
-    record {
-      few = omega (arith, inv.0);
-      frames = inv.2 ∙ ap (λ n. filter test (range_with_len 0 n)) end;
-    }
+returns-clause-frames c =
+    let test : List (Option Row) → ℕ → Bool = λ rows f. of_class c.args.class (get_or rows f None) in
+    let same = c.deref-row-items.ensures.0 ∙ c.self.view_is in
+    let all = ap length c.deref-row-items.ensures.0 ∙ c.self.invariant in
+    let end : c.loop-frame.frame ≡ 64 = omega (arith, all, c.loop-frame-test.false, c.loop-frame.auto.frame-end) in
+    c.loop-frame.invariant.0
+    ∙ ap (λ n. filter (test c.deref-row-items.result.now) (range_with_len 0 n)) end
+    ∙ ap (λ rows. filter (test rows) (range_with_len 0 64)) same

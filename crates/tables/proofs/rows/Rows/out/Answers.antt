@@ -1,19 +1,14 @@
-use Rattle.std.proofs.Common.{ℕ, Bool, true, false, get_or, is_some, None, sym, ap, ◌∙◌, arith}
-use Rattle.model.proofs.Places.{tally-none}
-use Rattle.tables.specs.Views.{rows_of}
-use Rattle.tables.proofs.Loops.{counted}
+use Rattle.std.proofs.Common.{◌≡◌, is_some, get_or, None, rules, sym, ap, ◌∙◌}
+use Rattle.std.proofs.iter.runs.Made.{chains}
+use Rattle.std.specs.List.{count_by}
+use Rattle.model.specs.Calls.{tally}
+use Rattle.tables.proofs.Places.{tally-table}
 use Rattle.tables.proofs.rows.Rows.out.Goals as goal
-use Rattle.tables.proofs.rows.Rows.out.Goals.{then-is_some, else-is_some}
 
-pub loop-frame-init : goal.loop-frame-init
-loop-frame-init c = (sym (tally-none _), omega arith)
-
-pub loop-frame-preserved : goal.loop-frame-preserved
-loop-frame-preserved c =
-    let inv = c.loop-frame.invariant in
-    let test : ℕ → Bool = λ f. is_some (get_or (rows_of c.args.self.now) f None) in
-    let here = sym (c.is_some.ensures ∙ ap is_some c.row.ensures) in
-    elim c.if-is_some.branch [
-      | then-is_some w ↦ counted c.loop-frame.frame test c.loop-frame.out c.if-is_some.out true inv.0 inv.1 (here ∙ w.if-is_some.true) w.out-is
-      | else-is_some w ↦ counted c.loop-frame.frame test c.loop-frame.out c.if-is_some.out false inv.0 inv.1 (here ∙ w.if-is_some.false) (omega (arith, w.out-is))
-    ]
+pub returns : goal.returns
+returns c =
+    let places = c.self.inside.table.items in
+    let counted : c.count.result ≡ count_by is_some places = search (rules, chains) in
+    counted
+    ∙ sym (tally-table None is_some places 64 c.self.invariant)
+    ∙ ap (λ rows. tally 64 (λ f. is_some (get_or rows f None))) c.self.view_is

@@ -1,19 +1,14 @@
-use Rattle.std.proofs.Common.{ℕ, Bool, true, false, not, get_or, sym, ap, ◌∙◌, arith}
-use Rattle.model.specs.State.{is_idle}
+use Rattle.std.proofs.Common.{◌≡◌, not, length, arith, rules, sym, ◌∙◌}
+use Rattle.std.proofs.iter.runs.Made.{chains}
+use Rattle.std.specs.List.{count_by}
 use Rattle.model.specs.declared.Span.TheVariants.{Idle}
-use Rattle.model.proofs.Places.{tally-none}
-use Rattle.tables.proofs.Loops.{counted}
+use Rattle.model.specs.State.{is_idle}
+use Rattle.tables.proofs.Places.{tally-table}
 use Rattle.tables.proofs.spans.Spans.taken.Goals as goal
-use Rattle.tables.proofs.spans.Spans.taken.Goals.{then-not-is_idle, else-not-is_idle}
 
-pub loop-span-init : goal.loop-span-init
-loop-span-init c = (sym (tally-none _), omega arith)
-
-pub loop-span-preserved : goal.loop-span-preserved
-loop-span-preserved c =
-    let inv = c.loop-span.invariant in
-    let test : ℕ → Bool = λ h. not (is_idle (get_or c.args.self.now.table h Idle)) in
-    elim c.if-not-is_idle.branch [
-      | then-not-is_idle w ↦ counted c.loop-span.span-index test c.loop-span.taken c.if-not-is_idle.taken true inv.0 inv.1 (ap not (sym c.is_idle.ensures ∙ w.if-not-is_idle.true)) w.taken-is
-      | else-not-is_idle w ↦ counted c.loop-span.span-index test c.loop-span.taken c.if-not-is_idle.taken false inv.0 inv.1 (ap not (sym c.is_idle.ensures ∙ w.if-not-is_idle.false)) (omega (arith, w.taken-is))
-    ]
+pub returns : goal.returns
+returns c =
+    let table = c.args.self.now.table in
+    let counted : c.count.result ≡ count_by (λ span. not (is_idle span)) table = search (rules, chains) in
+    let all : length table ≡ 128 = omega arith in
+    counted ∙ sym (tally-table Idle (λ span. not (is_idle span)) table 128 all)

@@ -1,6 +1,0 @@
-use Rattle.std.proofs.Common.{refl}
-use Rattle.copying.proofs.Slots.{front_of_same}
-use Rattle.copying.proofs.zero_bytes.Goals as goal
-
-pub returns : goal.returns
-returns c = record { long = refl; front = λ n within. front_of_same n 1024 0 within }

@@ -1,0 +1,72 @@
+-- What the definitions that go over the numbers of places say of a whole table.
+use Rattle.std.proofs.Common.{◌≡◌, ℕ, zero, suc, ◌+◌, ◌<◌, ◌≤◌, Bool, true, false, cond, List, [], ◌∷◌, ◌++◌, length, get_or, take, Some, fold, sym, refl, ap, ◌∙◌, subst, add-one, add-zero, arith}
+use Rattle.std.specs.List.{range_with_len, filter, count_by, position, position_from, enumerate_from}
+use Rattle.std.proofs.lemmas.List.{take_all}
+use Rattle.std.proofs.lemmas.List.Filters.{length-filter_more}
+use Rattle.std.proofs.lemmas.List.Sums.{length-filter}
+use Rattle.std.proofs.lemmas.Iterator.Adapters.{position_from-zero}
+use Rattle.model.specs.Calls.{tally, first_of}
+use Rattle.model.proofs.Places.{tally_more, tally-none, kept_more}
+
+tally_front : {A : Type 0} (d : A) (test : A → Bool) (xs : List A) (n : ℕ) → n ≤ length xs → tally n (λ k. test (get_or xs k d)) ≡ length (filter test (take n xs))
+tally_front d test xs zero within = tally-none (λ k. test (get_or xs k d))
+tally_front d test xs (suc n) within =
+    let passes : ℕ → Bool = λ k. test (get_or xs k d) in
+    let below : n < length xs = omega arith in
+    let P : ℕ → Type 0 = λ m. tally m passes ≡ length (filter test (take m xs)) in
+    subst P (add-one n)
+    (tally_more n passes
+    ∙ ap (λ t. t + cond (passes n) 1 0) (tally_front d test xs n (omega arith))
+    ∙ sym (length-filter_more test xs n d below))
+
+-- how many places of a table pass
+pub tally-table : {A : Type 0} (d : A) (test : A → Bool) (xs : List A) (n : ℕ) → length xs ≡ n → tally n (λ k. test (get_or xs k d)) ≡ count_by test xs
+tally-table d test xs n all =
+    tally_front d test xs n (omega arith)
+    ∙ ap (λ ys. length (filter test ys)) (take_all n xs (omega arith))
+    ∙ length-filter test xs
+
+first_of-cond : (b : Bool) (n : ℕ) (rest : List ℕ) → first_of (cond b (n ∷ rest) rest) ≡ cond b (Some n) (first_of rest)
+first_of-cond true n rest = refl
+first_of-cond false n rest = refl
+
+first_from : {A : Type 0} (d : A) (test : A → Bool) (passes : ℕ → Bool) (a : ℕ) (xs : List A) → ((k : ℕ) → k < length xs → passes (a + k) ≡ test (get_or xs k d)) → first_of (filter passes (range_with_len a (length xs))) ≡ position_from test a xs
+first_from d test passes a [] same = refl
+first_from d test passes a (x ∷ xs) same =
+    let here : passes a ≡ test x = ap passes (sym (add-zero a)) ∙ same 0 (omega arith) in
+    let rest = filter passes (range_with_len (a + 1) (length xs)) in
+    first_of-cond (passes a) a rest
+    ∙ ap (λ b. cond b (Some a) (first_of rest)) here
+    ∙ ap (cond (test x) (Some a))
+    (first_from d test passes (a + 1) xs (λ k below. ap passes (let e : a + 1 + k ≡ a + suc k = omega arith in e) ∙ same (suc k) (omega arith)))
+
+-- the first place that passes
+pub first-table : {A : Type 0} (d : A) (test : A → Bool) (xs : List A) (n : ℕ) → length xs ≡ n → first_of (filter (λ k. test (get_or xs k d)) (range_with_len 0 n)) ≡ position test xs
+first-table d test xs n all =
+    let passes : ℕ → Bool = λ k. test (get_or xs k d) in
+    ap (λ m. first_of (filter passes (range_with_len 0 m))) (sym all)
+    ∙ first_from d test passes 0 xs (λ k below. ap passes (let e : 0 + k ≡ k = omega arith in e))
+    ∙ sym (position_from-zero test xs)
+
+fold_from : {A B : Type 0} (d : A) (f : B → ℕ → A → B) (step : B → ℕ → B) (a : ℕ) (xs : List A) → ((k : ℕ) → k < length xs → (b : B) → step b (a + k) ≡ f b (a + k) (get_or xs k d)) → (b : B) → fold step b (range_with_len a (length xs)) ≡ fold (λ b p. f b p.0 p.1) b (enumerate_from a xs)
+fold_from d f step a [] same b = refl
+fold_from d f step a (x ∷ xs) same b =
+    let here : step b a ≡ f b a x = ap (step b) (sym (add-zero a)) ∙ same 0 (omega arith) b ∙ ap (λ k. f b k x) (add-zero a) in
+    ap (λ c. fold step c (range_with_len (a + 1) (length xs))) here
+    ∙ fold_from d f step (a + 1) xs
+    (λ k below c. let e : a + 1 + k ≡ a + suc k = omega arith in ap (step c) e ∙ same (suc k) (omega arith) c ∙ ap (λ j. f c j (get_or xs k d)) (sym e))
+    (f b a x)
+
+-- a fold over the places
+pub fold-table : {A B : Type 0} (d : A) (f : B → ℕ → A → B) (xs : List A) (n : ℕ) (b : B) → length xs ≡ n → fold (λ b k. f b k (get_or xs k d)) b (range_with_len 0 n) ≡ fold (λ b p. f b p.0 p.1) b (enumerate_from 0 xs)
+fold-table {A} {B} d f xs n b all =
+    let step : B → ℕ → B = λ b k. f b k (get_or xs k d) in
+    ap (λ m. fold step b (range_with_len 0 m)) (sym all)
+    ∙ fold_from d f step 0 xs (λ k below b. ap (λ j. f b (0 + k) (get_or xs j d)) (let e : 0 + k ≡ k = omega arith in e)) b
+
+-- a loop that lists the places that pass has come one further
+pub listed_more : (test : ℕ → Bool) (n : ℕ) (row next : List ℕ) (passes : Bool) → row ≡ filter test (range_with_len 0 n) → test n ≡ passes → next ≡ row ++ cond passes (n ∷ []) [] → next ≡ filter test (range_with_len 0 (n + 1))
+listed_more test n row next passes so_far here step =
+    step
+    ∙ ap (λ front. front ++ cond passes (n ∷ []) []) so_far
+    ∙ sym (kept_more test n ∙ ap (λ t. filter test (range_with_len 0 n) ++ cond t (n ∷ []) []) here)
