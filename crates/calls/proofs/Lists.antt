@@ -1,6 +1,6 @@
 -- Lists of calls, performed one after the other.
-use Rattle.std.proofs.Common.{◌≡◌, ℕ, ◌+◌, ◌<◌, ◌≤◌, List, [], ◌∷◌, ◌++◌, map, length, get_or, take, drop, sym, refl, ap, ◌∙◌, subst, append_assoc}
-use Rattle.std.proofs.lemmas.List.{append-nil, map_push, take_more, take-map, at_drop_more, at_drop_all}
+use Rattle.std.proofs.Common.{◌≡◌, ℕ, ◌+◌, ◌<◌, List, [], ◌∷◌, ◌++◌, map, length, get_or, take, drop, sym, refl, ap, ◌∙◌, subst, append_assoc}
+use Rattle.std.proofs.lemmas.List.{map_push, take_more, take-map, at_drop_more}
 use Rattle.model.specs.Geometry.{desktop}
 use Rattle.model.specs.State.{State}
 use Rattle.model.specs.Mesh.{Meaning}
@@ -32,11 +32,6 @@ module _ {C : Type 0} (meaning : Meaning C) where
         ap (λ (x : runs.Answer × State C). x.1) is ∙ ap (λ x. (runs.step desktop meaning (call_of (get_or calls i d)) x).1) so_far
         ∙ sym (ap (λ cs. (runs.run desktop meaning cs start).1) (take-map call_of (i + 1) calls ∙ ap (map call_of) (take_more calls i d below) ∙ map_push call_of (take i calls) (get_or calls i d) ∙ ap (λ cs. cs ++ call_of (get_or calls i d) ∷ []) (sym (take-map call_of i calls)))
         ∙ ran_more (take i (map call_of calls)) (call_of (get_or calls i d)) start)
-
-  pub finished : {K : Type 0} (call_of : K → runs.Call) (calls : List K) (i : ℕ) (s : State C) (answers : List runs.Answer) (all : List runs.Answer × State C) → length calls ≤ i → behind answers (answered_by meaning (map call_of (drop i calls)) s) ≡ all → (answers, s) ≡ all
-  finished {K} call_of calls i s answers all past so_far =
-      let pair : List runs.Answer → List runs.Answer × State C = λ given. (given, s) in
-      ap pair (sym (append-nil answers)) ∙ sym (at_drop_all (λ (ks : List K). behind answers (answered_by meaning (map call_of ks) s)) calls i past) ∙ so_far
 
 -- the labels of calls that were performed are ones that the pool has
 known_push : (calls : List runs.Call) (c : runs.Call) → runs.KnownLabels desktop calls → runs.KnownLabel desktop c → runs.KnownLabels desktop (calls ++ c ∷ [])

@@ -1,13 +1,12 @@
 // The calls of a pool as values, so that lists of them can be kept, passed and performed.
 #![tactic(auto)]
 
-ghost use Rattle.std.specs.Prelude.{◌≡◌, map, replicate, IfOk, OnErr, OnOk};
+ghost use Rattle.std.specs.Prelude.{◌≡◌, map, IfOk, OnErr, OnOk};
 ghost use Rattle.model.specs.Geometry.{desktop};
-ghost use Rattle.model.specs.Calls.{read as read_step, fetch as fetch_step};
-ghost use Rattle.model.specs.Runs.{step as model_step, filled, KnownLabel, KnownLabels};
+ghost use Rattle.model.specs.Runs.{step as model_step, KnownLabel, KnownLabels};
 ghost use Rattle.pool.specs.View.{state_of};
 ghost use Rattle.pool.specs.Pairings.{meaning_of};
-ghost use Rattle.calls.specs.Values.{call_of, answer_of, bytes_of, answered_by, RanAFront};
+ghost use Rattle.calls.specs.Values.{call_of, answer_of, answered_by, RanAFront};
 
 use bank::Bank;
 use model::{Counts, Made, Meshed};
@@ -16,7 +15,8 @@ use pool::Pool;
 use refusal::Refusal;
 use std::alloc::{AllocError, Global};
 
-// A call with its arguments. A read and a fetch have the number of bytes asked for.
+// A call with its arguments. A read and a fetch have the number of bytes asked for. A call is an enum and no closure:
+// lists of calls are data, which are kept and passed, and which the laws compare.
 #[derive(Drop)]
 pub enum Call {
     New(u8, u32),
@@ -42,78 +42,36 @@ pub enum Answer {
     ToCount(Counts),
 }
 
-// So many zeros.
-fn zeros(heap: Global, count: u32) -> Result<Vec<u8>, AllocError>
-    ensures { IfOk result (λ v. v.items ≡ replicate count 0) }
-{
-    let mut bytes = Vec::new(heap);
-    bytes.resize(count as usize, 0)?;
-    Ok(bytes)
-}
-
-// Reads so many bytes of a label's patch.
-fn read_bytes<B: Bank, P>(
-    heap: Global,
-    pool: &mut Pool<B, P>,
-    label: u8,
-    offset: u32,
-    count: u32,
-) -> Result<Result<Vec<u8>, Refusal>, AllocError>
-    ensures bytes { IfOk result (λ read. bytes_of read ≡ filled (read_step desktop label offset (replicate count 0) (state_of B.Bank.model pool.old))) }
-    ensures same { state_of B.Bank.model pool.new ≡ state_of B.Bank.model pool.old }
-{
-    let mut buffer = zeros(heap, count)?;
-    match pool.read(label, offset, buffer.as_mut_slice()) {
-        Ok(()) => Ok(Ok(buffer)),
-        Err(refusal) => Ok(Err(refusal)),
-    }
-}
-
-// Reads so many bytes from an address on.
-fn fetch_bytes<B: Bank, P>(
-    heap: Global,
-    pool: &mut Pool<B, P>,
-    address: u32,
-    count: u32,
-) -> Result<Result<Vec<u8>, Refusal>, AllocError>
-    ensures bytes { IfOk result (λ read. bytes_of read ≡ filled (fetch_step desktop address (replicate count 0) (state_of B.Bank.model pool.old))) }
-    ensures same { state_of B.Bank.model pool.new ≡ state_of B.Bank.model pool.old }
-{
-    let mut buffer = zeros(heap, count)?;
-    match pool.fetch(address, buffer.as_mut_slice()) {
-        Ok(()) => Ok(Ok(buffer)),
-        Err(refusal) => Ok(Err(refusal)),
-    }
-}
-
 // Performs a call. Where there is no memory for what it answers, the pool is as it was.
 pub fn perform<B: Bank, P: Pairing>(
     heap: Global,
     pool: &mut Pool<B, P>,
     call: &Call,
 ) -> Result<Answer, AllocError>
-    ensures done { IfOk result (λ a. (answer_of a, state_of B.Bank.model pool.new) ≡ model_step desktop (meaning_of P.Pairing.pairs P.Pairing.next) (call_of call.now) (state_of B.Bank.model pool.old)) }
-    ensures undone { OnErr result (state_of B.Bank.model pool.new ≡ state_of B.Bank.model pool.old) }
+    ensures done { IfOk result (λ a. (answer_of a, state_of B.model pool.new) ≡ model_step desktop (meaning_of P.pairs P.next) (call_of call.now) (state_of B.model pool.old)) }
+    ensures undone { OnErr result (state_of B.model pool.new ≡ state_of B.model pool.old) }
     ensures known { KnownLabel desktop (call_of call.now) }
 {
-    match call {
-        Call::New(label, length) => Ok(Answer::ToNew(pool.new(*label, *length))),
-        Call::Write(label, offset, bytes) => Ok(Answer::ToWrite(pool.write(
-            *label,
-            *offset,
+    match *call {
+        Call::New(label, length) => Ok(Answer::ToNew(pool.new(label, length))),
+        Call::Write(label, offset, ref bytes) => Ok(Answer::ToWrite(pool.write(
+            label,
+            offset,
             bytes.as_slice(),
         ))),
         Call::Read(label, offset, count) => {
-            let bytes = read_bytes(heap, pool, *label, *offset, *count)?;
-            Ok(Answer::ToRead(bytes))
+            let mut buffer = vec![in heap; 0; count as usize]?;
+            let read = pool.read(label, offset, buffer.as_mut_slice());
+            Ok(Answer::ToRead(read.map(|()| buffer)))
         }
         Call::Fetch(address, count) => {
-            let bytes = fetch_bytes(heap, pool, *address, *count)?;
-            Ok(Answer::ToFetch(bytes))
+            let mut buffer = vec![in heap; 0; count as usize]?;
+            let fetched = pool.fetch(address, buffer.as_mut_slice());
+            Ok(Answer::ToFetch(fetched.map(|()| buffer)))
         }
-        Call::Place(label) => Ok(Answer::ToPlace(pool.place(*label))),
-        Call::Delete(label) => Ok(Answer::ToDelete(pool.delete(*label))),
-        Call::Mesh(class) => Ok(Answer::ToMesh(pool.mesh(*class))),
+        Call::Place(label) => Ok(Answer::ToPlace(pool.place(label))),
+        Call::Delete(label) => Ok(Answer::ToDelete(pool.delete(label))),
+        Call::Mesh(class) => Ok(Answer::ToMesh(pool.mesh(class))),
         Call::Count => Ok(Answer::ToCount(pool.count())),
     }
 }
@@ -125,20 +83,13 @@ pub fn perform_all<B: Bank, P: Pairing>(
     pool: &mut Pool<B, P>,
     calls: &[Call],
 ) -> Result<Vec<Answer>, AllocError>
-    ensures done { IfOk result (λ answers. (map answer_of answers.items, state_of B.Bank.model pool.new) ≡ answered_by (meaning_of P.Pairing.pairs P.Pairing.next) (map call_of calls.now) (state_of B.Bank.model pool.old)) }
-    ensures undone { OnErr result (RanAFront (meaning_of P.Pairing.pairs P.Pairing.next) (map call_of calls.now) (state_of B.Bank.model pool.old) (state_of B.Bank.model pool.new)) }
+    ensures done { IfOk result (λ answers. (map answer_of answers.items, state_of B.model pool.new) ≡ answered_by (meaning_of P.pairs P.next) (map call_of calls.now) (state_of B.model pool.old)) }
+    ensures undone { OnErr result (RanAFront (meaning_of P.pairs P.next) (map call_of calls.now) (state_of B.model pool.old) (state_of B.model pool.new)) }
     ensures known { OnOk result (KnownLabels desktop (map call_of calls.now)) }
 {
     let mut answers = Vec::new(heap);
     for call in calls {
-        match perform(heap, pool, call) {
-            Ok(answer) => {
-                if answers.push(answer).is_err() {
-                    return Err(AllocError);
-                }
-            }
-            Err(error) => return Err(error),
-        }
+        answers.push(perform(heap, pool, call)?)?;
     }
     Ok(answers)
 }

@@ -1,7 +1,8 @@
 -- What a proposal leaves in its buffer, and the merging of pairs in their order.
-use Rattle.std.proofs.Common.{◌≡◌, ℕ, ◌+◌, ◌/◌, ◌<◌, ◌≤◌, true, cond, leb, List, map, length, get_or, take, drop, None, Ok, Err, Result, sym, ap, ◌∙◌, arith, length-append}
-use Rattle.std.proofs.lemmas.List.{take_at, at_drop_more, at_drop_all}
-use Rattle.std.proofs.lemmas.Bool.{and_from, le-leb, cond-true}
+use Rattle.std.proofs.Common.{◌≡◌, ℕ, ◌+◌, ◌-◌, ◌/◌, ◌<◌, ◌≤◌, true, cond, leb, List, map, length, get_or, take, drop, None, Ok, Err, Result, sym, ap, ◌∙◌, arith}
+use Rattle.std.proofs.lemmas.List.{take_at, at_drop_more}
+use Rattle.std.proofs.lemmas.Bool.{and_from, le-leb}
+use Rattle.std.specs.Result.{result_unwrap_or}
 use Rattle.refusal.specs.declared.Refusal.{Refusal}
 use Rattle.refusal.specs.declared.Refusal.TheVariants.{Row as RowRefused}
 use Rattle.pairing.specs.declared.pairs.Pair.{Pair}
@@ -12,25 +13,12 @@ use Rattle.model.specs.State.{State}
 use Rattle.model.specs.Mesh.{both, merge, merged, merged_then}
 use Rattle.pool.specs.Pairings.{places_of}
 
--- so few masks, and room for 32 pairs
-pub enough : (n b : ℕ) → n ≤ 64 → b ≡ 32 → accepted n b ≡ true
-enough n b few room = and_from (leb n 64) (leb (n / 2) b) (le-leb n 64 few) (le-leb (n / 2) b (omega arith))
-
-module _ (n : ℕ) (ps buffer after : List Pair) (few : n ≤ 64) (room : length buffer ≡ 32) where
-  pub counted : (count : ℕ) → ◌≡◌ {A = Result ℕ Refusal} (Ok count) (cond (accepted n (length buffer)) (Ok (length ps)) (Err RowRefused)) → count ≡ length ps
-  counted count is =
-      let ok : ◌≡◌ {A = Result ℕ Refusal} (Ok count) (Ok (length ps)) =
-      is ∙ cond-true (accepted n (length buffer)) (Ok (length ps)) (Err RowRefused) (enough n (length buffer) few room) in
-      cc
-
-  pub in_front : after ≡ cond (accepted n (length buffer)) (written_over ps buffer) buffer → take (length ps) after ≡ ps
-  in_front is =
-      ap (take (length ps)) (is ∙ cond-true (accepted n (length buffer)) (written_over ps buffer) buffer (enough n (length buffer) few room))
-      ∙ take_at ps (drop (length ps) buffer) (length ps) (λ i. length ps)
-
-  pub within-room : length after ≡ length buffer → after ≡ cond (accepted n (length buffer)) (written_over ps buffer) buffer → length ps ≤ 32
-  within-room long is =
-      omega (arith, long, room, ap length (is ∙ cond-true (accepted n (length buffer)) (written_over ps buffer) buffer (enough n (length buffer) few room)), length-append ps (drop (length ps) buffer))
+-- with so few masks and room for 32 pairs a proposal is answered, and the pairs stand in front
+pub proposed : (n : ℕ) (ps buffer after : List Pair) (count : Result ℕ Refusal) → n ≤ 64 → length buffer ≡ 32 → count ≡ cond (accepted n (length buffer)) (Ok (length ps)) (Err RowRefused) → after ≡ cond (accepted n (length buffer)) (written_over ps buffer) buffer → take (result_unwrap_or count 0 - 0) after ≡ ps
+proposed n ps buffer after count few room answer written =
+    let enough : accepted n (length buffer) ≡ true =
+    and_from (leb n 64) (leb (n / 2) (length buffer)) (le-leb n 64 few) (le-leb (n / 2) (length buffer) (omega arith)) in
+    rw (answer, written, enough) (ap (λ k. take k (written_over ps buffer)) (let e : length ps - 0 ≡ length ps = omega arith in e) ∙ take_at ps (drop (length ps) buffer) (length ps) (λ i. length ps))
 
 -- a turn of the loop over the pairs
 module _ {C : Type 0} (g : Geometry) (frames : List ℕ) (pairs : List Pair) where
@@ -57,6 +45,3 @@ module _ {C : Type 0} (g : Geometry) (frames : List ℕ) (pairs : List Pair) whe
   pub merged_stopped : (i : ℕ) (d : Pair) (f h : ℕ) (done : Meshed) (e : Refusal) (s t : State C) → i < length pairs → f ≡ get_or frames (get_or pairs i d).left 0 → h ≡ get_or frames (get_or pairs i d).right 0 → (Err e, t) ≡ merge g f h (get_or s.rows f None) (get_or s.rows h None) s → (Err e, t) ≡ left i done s
   merged_stopped i d f h done e s t below left_is right_is is =
       sym (next-pair i d done s below ∙ ap (merged_then g (merged g frames (map places_of (drop (i + 1) pairs))) done) (sym (is ∙ met (get_or pairs i d) f h s left_is right_is)))
-
-  pub merged-end : (i : ℕ) (done : Meshed) (s : State C) → length pairs ≤ i → (Ok done, s) ≡ left i done s
-  merged-end i done s past = sym (at_drop_all (λ (ps : List Pair). merged g frames (map places_of ps) done s) pairs i past)

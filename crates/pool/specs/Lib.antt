@@ -1,2 +1,4 @@
 pub mod View
+pub mod Held
+pub mod Spots
 pub mod Pairings

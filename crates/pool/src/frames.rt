@@ -10,8 +10,8 @@ use refusal::Refusal;
 impl<B: Bank, P> Pool<B, P> {
     // How many frames the pool's bank has.
     pub fn size(&mut self) -> u32
-        ensures size { result ≡ (state_of B.Bank.model self.old).bank.size }
-        ensures same { state_of B.Bank.model self.new ≡ state_of B.Bank.model self.old }
+        ensures size { result ≡ (state_of B.model self.old).bank.size }
+        ensures same { state_of B.model self.new ≡ state_of B.model self.old }
     {
         self.bank.size()
     }
@@ -20,8 +20,8 @@ impl<B: Bank, P> Pool<B, P> {
     //
     // EDGE where the buffer is longer than a frame, NOT OUT for a frame that is not out.
     pub fn frame(&mut self, frame: u32, buffer: &mut [u8]) -> Result<(), Refusal>
-        ensures step { (result, buffer.new) ≡ read_frame frame 0 buffer.old (state_of B.Bank.model self.old).bank }
-        ensures same { state_of B.Bank.model self.new ≡ state_of B.Bank.model self.old }
+        ensures step { (result, buffer.new) ≡ read_frame frame 0 buffer.old (state_of B.model self.old).bank }
+        ensures same { state_of B.model self.new ≡ state_of B.model self.old }
     {
         self.bank.read(frame, 0, buffer)
     }

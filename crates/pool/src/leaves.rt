@@ -6,6 +6,7 @@ ghost use Rattle.bank.specs.Model.{give_back as giving};
 ghost use Rattle.pool.specs.View.{state_of};
 
 use crate::Pool;
+use crate::held::Held;
 use bank::Bank;
 use copying::clear_slot;
 use model::{Patch, Row};
@@ -19,54 +20,47 @@ impl<B: Bank, P> Pool<B, P> {
     //
     // ABSENT for a label that is not live.
     pub fn delete(&mut self, label: u8) -> Result<bool, Refusal>
-        ensures { (result, state_of B.Bank.model self.new) ≡ delete_step desktop label (state_of B.Bank.model self.old) }
+        ensures { (result, state_of B.model self.new) ≡ delete_step desktop label (state_of B.model self.old) }
     {
-        let Some(patch) = self.labels.patch(label) else {
-            return Err(Refusal::Absent);
-        };
-        let Some(frame) = self.spans.frame(patch.span) else {
-            return Err(Refusal::NotOut);
-        };
-        let Some(row) = self.rows.row(frame) else {
-            return Err(Refusal::NotOut);
-        };
-        self.clear(label, patch, frame, row)
+        let patch = self.labels.patch(label).ok_or(Refusal::Absent)?;
+        let frame = self.spans.frame(patch.span).ok_or(Refusal::NotOut)?;
+        let held = self.held(frame).ok_or(Refusal::NotOut)?;
+        self.clear(label, patch, held)
     }
 
     // Clears the slot of a patch, and its bit in the row of its frame.
-    fn clear(&mut self, label: u8, patch: Patch, frame: u32, row: Row) -> Result<bool, Refusal>
-        ensures { (result, state_of B.Bank.model self.new) ≡ clearing desktop label patch frame (Some row) (state_of B.Bank.model self.old) }
+    fn clear(&mut self, label: u8, patch: Patch, held: Held) -> Result<bool, Refusal>
+        ensures { (result, state_of B.model self.new) ≡ clearing desktop label patch held.frame (Some held.row) (state_of B.model self.old) }
     {
         let size = slot_size(class_of(patch.length));
         clear_slot(
             &mut self.bank,
-            frame,
+            held.frame,
             slot_start(patch.length, patch.slot),
             size,
         )?;
-        let left = Row {
-            class: row.class,
-            mask: without_slot(row.mask, patch.slot),
-            home: row.home,
+        let row = Row {
+            mask: without_slot(held.row.mask, patch.slot),
+            ..held.row
         };
-        self.free(label, frame, left)
+        self.free(label, Held { row, ..held })
     }
 
     // Keeps what is left of a frame's row, or gives the frame back.
-    fn free(&mut self, label: u8, frame: u32, row: Row) -> Result<bool, Refusal>
-        ensures { (result, state_of B.Bank.model self.new) ≡ freed desktop label frame row (state_of B.Bank.model self.old) }
+    fn free(&mut self, label: u8, left: Held) -> Result<bool, Refusal>
+        ensures { (result, state_of B.model self.new) ≡ freed desktop label left.frame left.row (state_of B.model self.old) }
     {
-        if row.mask == 0 {
-            return self.give_up(label, frame);
+        if left.row.mask == 0 {
+            return self.give_up(label, left.frame);
         }
         self.labels.set(label, None);
-        self.rows.set(frame, Some(row));
+        self.rows.set(left.frame, Some(left.row));
         Ok(false)
     }
 
     // Gives back a frame that holds no patch any more.
     fn give_up(&mut self, label: u8, frame: u32) -> Result<bool, Refusal>
-        ensures { (result, state_of B.Bank.model self.new) ≡ emptied desktop label frame (giving frame (B.Bank.model self.old.bank)) (state_of B.Bank.model self.old) }
+        ensures { (result, state_of B.model self.new) ≡ emptied desktop label frame (giving frame (B.model self.old.bank)) (state_of B.model self.old) }
     {
         self.bank.give_back(frame)?;
         self.labels.set(label, None);

@@ -3,6 +3,7 @@
 
 mod calls;
 mod frames;
+mod held;
 mod leaves;
 mod meshes;
 
@@ -11,7 +12,8 @@ use tables::labels::Labels;
 use tables::rows::Rows;
 use tables::spans::Spans;
 
-// A pool over any bank and any pairing. Every value of it is a pool; what it means is `state_of` it.
+// A pool over any bank and any pairing. Every value of it is a pool; what it means is `state_of` it. An impl of Model
+// with that view was tried, and is refused: tables of a state are functions, and a model's value has to be data.
 #[derive(Drop)]
 pub struct Pool<B, P> {
     bank: B,

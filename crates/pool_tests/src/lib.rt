@@ -7,10 +7,11 @@ mod tests {
     use banks::{FlatBank, LaneBank, Quota};
     use model::Counts;
     use pairing::Greedy;
-    use playback::{Command, play};
+    use playback::{Command, Line, play};
     use pool::Pool;
     use refusal::Refusal;
     use std::alloc::{AllocError, Global};
+    use std::mem;
     use std::process::Abort;
     use std::test::Fail;
 
@@ -46,8 +47,28 @@ mod tests {
         Ok(list)
     }
 
-    // A pool just opened over the bank, with Greedy and seed 1, answers the commands so: one answer after another,
-    // each with a space after it.
+    // A pool just opened over the bank, with Greedy and seed 1, plays a list of bytes so: what is told of one line after
+    // another.
+    fn plays<B: Bank + Drop, F: Fn(&mut String, &Line) -> Result<(), AllocError>>(
+        rt: &impl Abort,
+        heap: Global,
+        bank: B,
+        list: &[u8],
+        tell: F,
+        expected: &str,
+    ) -> Result<(), Fail>
+        requires { F.IsAlwaysCallable tell }
+    {
+        let mut pool = Pool::open(bank, Greedy, 1);
+        let mut text = String::new(heap);
+        for line in play(heap, &mut pool, list)?.iter() {
+            tell(&mut text, line)?;
+        }
+        assert_eq!(rt; text.as_str(), expected);
+        Ok(())
+    }
+
+    // It answers the commands so: one answer after another, each with a space after it.
     fn answers<B: Bank + Drop>(
         rt: &impl Abort,
         heap: Global,
@@ -56,18 +77,11 @@ mod tests {
         expected: &str,
     ) -> Result<(), Fail> {
         let list = encode(heap, commands)?;
-        let mut pool = Pool::open(heap, bank, Greedy, 1)?;
-        let mut text = String::new(heap);
-        let lines = play(heap, &mut pool, list.as_slice())?;
-        for line in lines.iter() {
-            text.push_str(line.outcome.to_string(heap)?.as_str())?;
-            text.push_str(" ")?;
-        }
-        assert_eq!(rt; text.as_str(), expected);
-        Ok(())
+        let answer = |text: &mut String, line: &Line| write!(text, "{} ", line.outcome);
+        plays(rt, heap, bank, list.as_slice(), answer, expected)
     }
 
-    // The same of a list of bytes: one whole line after another.
+    // It tells of a list of bytes so: one whole line after another.
     fn tells<B: Bank + Drop>(
         rt: &impl Abort,
         heap: Global,
@@ -75,15 +89,8 @@ mod tests {
         list: &[u8],
         expected: &str,
     ) -> Result<(), Fail> {
-        let mut pool = Pool::open(heap, bank, Greedy, 1)?;
-        let mut text = String::new(heap);
-        let lines = play(heap, &mut pool, list)?;
-        for line in lines.iter() {
-            text.push_str(line.to_string(heap)?.as_str())?;
-            text.push_str("\n")?;
-        }
-        assert_eq!(rt; text.as_str(), expected);
-        Ok(())
+        let whole = |text: &mut String, line: &Line| writeln!(text, "{line}");
+        plays(rt, heap, bank, list, whole, expected)
     }
 
     // A list with a merge in it: a patch moves to another frame and keeps its address.
@@ -315,7 +322,7 @@ mod tests {
     #[test]
     fn long_offsets_and_stretches(rt: HostRuntime) -> Result<(), Fail> {
         let mut memory = [7; 1024];
-        let mut pool = Pool::open(rt.alloc(), FlatBank::new(&mut memory), Greedy, 1)?;
+        let mut pool = Pool::open(FlatBank::new(&mut memory), Greedy, 1);
         assert_eq!(rt; pool.new(1, u32::MAX), Err(Refusal::Size));
         let address = pool.new(1, 16)?.address;
         assert_eq!(rt; address, 528);
@@ -350,7 +357,7 @@ mod tests {
     #[test]
     fn frames_run_out(rt: HostRuntime) -> Result<(), Fail> {
         let mut memory = [7; 65536];
-        let mut pool = Pool::open(rt.alloc(), FlatBank::new(&mut memory), Greedy, 1)?;
+        let mut pool = Pool::open(FlatBank::new(&mut memory), Greedy, 1);
         for label in 0..128u8 {
             assert_eq!(rt; pool.new(label, 512)?.opened, label % 2 == 0);
         }
@@ -371,7 +378,7 @@ mod tests {
     #[test]
     fn spans_run_out(rt: HostRuntime) -> Result<(), Fail> {
         let mut memory = [7; 2048];
-        let mut pool = Pool::open(rt.alloc(), FlatBank::new(&mut memory), Greedy, 1)?;
+        let mut pool = Pool::open(FlatBank::new(&mut memory), Greedy, 1);
         let first = pool.new(1, 512)?.address;
         let second = pool.new(2, 512)?.address;
         assert_eq!(rt; (first, second), (512, 0));
@@ -379,11 +386,9 @@ mod tests {
         let mut spare = 3u8;
         for _ in 0..127 {
             let slot = (pool.new(spare, 512)?.address / 512 % 2) as usize;
-            let gone = labels[slot];
-            assert_eq!(rt; pool.delete(gone), Ok(false));
+            mem::swap(&mut labels[slot], &mut spare);
+            assert_eq!(rt; pool.delete(spare), Ok(false));
             assert_eq!(rt; pool.mesh(5)?.merges, 1);
-            labels[slot] = spare;
-            spare = gone;
         }
         assert_eq!(rt; pool.new(spare, 512), Err(Refusal::Spans));
         let full = Counts {
