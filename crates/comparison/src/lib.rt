@@ -10,8 +10,8 @@ ghost use Rattle.pool.specs.Pairings.{meaning_of};
 ghost use Rattle.calls.specs.Values.{call_of, answer_of};
 ghost use Rattle.verdicts.specs.Apart.{FirstApart};
 ghost use Rattle.verdicts.specs.Held.{held};
-ghost use Rattle.units.specs.Performed.{Performed};
-ghost use Rattle.units.specs.Promises.{heard, Kept, Agree, start_with};
+ghost use Rattle.units.specs.Promises.{heard};
+ghost use Rattle.units.specs.Performance.{performance, heard_in, AsDefined, KeepsLaws, KeepLawsOfTwo};
 
 use bank::Bank;
 use calls::Call;
@@ -44,60 +44,48 @@ pub fn compare<B: Bank + Drop, P: Pairing + Drop, C: Bank + Drop, Q: Pairing + D
     two: Setup<C, Q>,
     second_calls: &[Call],
 ) -> Result<Compared<B, P, C, Q>, AllocError>
-    ensures first { IfOk result (λ c. Performed (meaning_of P.Pairing.pairs P.Pairing.next) (B.Bank.model one.bank) one.pairing one.seed (map call_of first_calls.now) (map answer_of c.first.answers.items) (state_of B.Bank.model c.first.pool)) }
-    ensures second { IfOk result (λ c. Performed (meaning_of Q.Pairing.pairs Q.Pairing.next) (C.Bank.model two.bank) two.pairing two.seed (map call_of second_calls.now) (map answer_of c.second.answers.items) (state_of C.Bank.model c.second.pool)) }
-    ensures first_laws { IfOk result (λ c. Kept (meaning_of P.Pairing.pairs P.Pairing.next) (told (map call_of first_calls.now) (map answer_of c.first.answers.items)) (state_of B.Bank.model c.first.pool)) }
-    ensures second_laws { IfOk result (λ c. Kept (meaning_of Q.Pairing.pairs Q.Pairing.next) (told (map call_of second_calls.now) (map answer_of c.second.answers.items)) (state_of C.Bank.model c.second.pool)) }
-    ensures both { IfOk result (λ c. Agree (start_with (meaning_of P.Pairing.pairs P.Pairing.next) (B.Bank.model one.bank) one.pairing one.seed (map call_of first_calls.now)) (told (map call_of first_calls.now) (map answer_of c.first.answers.items)) (state_of B.Bank.model c.first.pool) (start_with (meaning_of Q.Pairing.pairs Q.Pairing.next) (C.Bank.model two.bank) two.pairing two.seed (map call_of second_calls.now)) (told (map call_of second_calls.now) (map answer_of c.second.answers.items)) (state_of C.Bank.model c.second.pool)) }
-    ensures label { IfOk result (λ c. FirstApart (heard (meaning_of P.Pairing.pairs P.Pairing.next) (told (map call_of first_calls.now) (map answer_of c.first.answers.items)) (state_of B.Bank.model c.first.pool)) (heard (meaning_of Q.Pairing.pairs Q.Pairing.next) (told (map call_of second_calls.now) (map answer_of c.second.answers.items)) (state_of C.Bank.model c.second.pool)) desktop.labels c.label) }
-    ensures frame { IfOk result (λ c. FirstApart (held (state_of B.Bank.model c.first.pool).bank) (held (state_of C.Bank.model c.second.pool).bank) most_frames c.frame) }
+    ensures first { IfOk result (λ c. AsDefined (performance (meaning_of P.pairs P.next) B.model one first_calls.now c.first)) }
+    ensures second { IfOk result (λ c. AsDefined (performance (meaning_of Q.pairs Q.next) C.model two second_calls.now c.second)) }
+    ensures first_laws { IfOk result (λ c. KeepsLaws (performance (meaning_of P.pairs P.next) B.model one first_calls.now c.first)) }
+    ensures second_laws { IfOk result (λ c. KeepsLaws (performance (meaning_of Q.pairs Q.next) C.model two second_calls.now c.second)) }
+    ensures both { IfOk result (λ c. KeepLawsOfTwo (performance (meaning_of P.pairs P.next) B.model one first_calls.now c.first) (performance (meaning_of Q.pairs Q.next) C.model two second_calls.now c.second)) }
+    ensures label { IfOk result (λ c. FirstApart (heard_in (performance (meaning_of P.pairs P.next) B.model one first_calls.now c.first)) (heard_in (performance (meaning_of Q.pairs Q.next) C.model two second_calls.now c.second)) desktop.labels c.label) }
+    ensures frame { IfOk result (λ c. FirstApart (held (state_of B.model c.first.pool).bank) (held (state_of C.model c.second.pool).bank) most_frames c.frame) }
 {
-    let Units { first, second } = start_both(heap, one, first_calls, two, second_calls)?;
-    match judge(heap, first, first_calls, second, second_calls) {
-        Ok(compared) => Ok(compared),
-        Err(error) => Err(error),
-    }
-}
-
-// Reads two units through, and says where they differ first.
-fn judge<B: Bank + Drop, P: Pairing + Drop, C: Bank + Drop, Q: Pairing + Drop>(
-    heap: Global,
-    one: Unit<B, P>,
-    first_calls: &[Call],
-    two: Unit<C, Q>,
-    second_calls: &[Call],
-) -> Result<Compared<B, P, C, Q>, AllocError>
-    ensures first { IfOk result (λ c. (c.first.answers ≡ one.answers) × (state_of B.Bank.model c.first.pool ≡ state_of B.Bank.model one.pool)) }
-    ensures second { IfOk result (λ c. (c.second.answers ≡ two.answers) × (state_of C.Bank.model c.second.pool ≡ state_of C.Bank.model two.pool)) }
-    ensures label { IfOk result (λ c. FirstApart (heard (meaning_of P.Pairing.pairs P.Pairing.next) (told (map call_of first_calls.now) (map answer_of one.answers.items)) (state_of B.Bank.model one.pool)) (heard (meaning_of Q.Pairing.pairs Q.Pairing.next) (told (map call_of second_calls.now) (map answer_of two.answers.items)) (state_of C.Bank.model two.pool)) desktop.labels c.label) }
-    ensures frame { IfOk result (λ c. FirstApart (held (state_of B.Bank.model one.pool).bank) (held (state_of C.Bank.model two.pool).bank) most_frames c.frame) }
-{
-    let Unit { pool, answers } = one;
-    let mut first_pool = pool;
-    let first_answers = answers;
-    let Unit { pool, answers } = two;
-    let mut second_pool = pool;
-    let second_answers = answers;
-    let first_of_one = first_addresses(first_calls, first_answers.as_slice());
-    let first_of_two = first_addresses(second_calls, second_answers.as_slice());
-    let label = reads_alike(
-        heap,
-        &mut first_pool,
-        &first_of_one,
-        &mut second_pool,
-        &first_of_two,
-    )?;
-    let frame = frames_differ(&mut first_pool, &mut second_pool);
+    let Units {
+        mut first,
+        mut second,
+    } = start_both(heap, one, first_calls, two, second_calls)?;
+    let label = label_apart(heap, &mut first, first_calls, &mut second, second_calls)?;
+    let frame = frames_differ(&mut first.pool, &mut second.pool);
     Ok(Compared {
-        first: Unit {
-            pool: first_pool,
-            answers: first_answers,
-        },
-        second: Unit {
-            pool: second_pool,
-            answers: second_answers,
-        },
+        first,
+        second,
         label,
         frame,
     })
+}
+
+// The lowest label that reads differently in two units. Each label is read in both, and fetched at its first address
+// there, by the answers to these calls.
+fn label_apart<B: Bank, P: Pairing, C: Bank, Q: Pairing>(
+    heap: Global,
+    first: &mut Unit<B, P>,
+    first_calls: &[Call],
+    second: &mut Unit<C, Q>,
+    second_calls: &[Call],
+) -> Result<Option<u8>, AllocError>
+    ensures apart { IfOk result (λ label. FirstApart (heard (meaning_of P.pairs P.next) (told (map call_of first_calls.now) (map answer_of first.old.answers.items)) (state_of B.model first.old.pool)) (heard (meaning_of Q.pairs Q.next) (told (map call_of second_calls.now) (map answer_of second.old.answers.items)) (state_of C.model second.old.pool)) desktop.labels label) }
+    ensures first { (first.new.answers ≡ first.old.answers) × (state_of B.model first.new.pool ≡ state_of B.model first.old.pool) }
+    ensures second { (second.new.answers ≡ second.old.answers) × (state_of C.model second.new.pool ≡ state_of C.model second.old.pool) }
+{
+    let first_of_one = first_addresses(first_calls, &first.answers);
+    let first_of_two = first_addresses(second_calls, &second.answers);
+    reads_alike(
+        heap,
+        &mut first.pool,
+        &first_of_one,
+        &mut second.pool,
+        &first_of_two,
+    )
 }

@@ -1,2 +1,3 @@
+pub mod Performance
 pub mod Performed
 pub mod Promises

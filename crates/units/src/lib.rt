@@ -1,13 +1,9 @@
 // Units: a bank, a pairing and a seed, started and given a list of calls; and two of them, side by side.
 #![tactic(auto)]
 
-ghost use Rattle.std.specs.Prelude.{map, IfOk};
-ghost use Rattle.pool.specs.View.{state_of};
+ghost use Rattle.std.specs.Prelude.{IfOk};
 ghost use Rattle.pool.specs.Pairings.{meaning_of};
-ghost use Rattle.calls.specs.Values.{call_of, answer_of};
-ghost use Rattle.model.specs.Runs.{told};
-ghost use Rattle.units.specs.Performed.{Performed};
-ghost use Rattle.units.specs.Promises.{Kept, Agree, start_with};
+ghost use Rattle.units.specs.Performance.{performance, AsDefined, KeepsLaws, KeepLawsOfTwo};
 
 use bank::Bank;
 use calls::{Answer, Call, perform_all};
@@ -45,15 +41,10 @@ pub fn start<B: Bank + Drop, P: Pairing + Drop>(
     setup: Setup<B, P>,
     calls: &[Call],
 ) -> Result<Unit<B, P>, AllocError>
-    ensures performed { IfOk result (λ u. Performed (meaning_of P.Pairing.pairs P.Pairing.next) (B.Bank.model setup.bank) setup.pairing setup.seed (map call_of calls.now) (map answer_of u.answers.items) (state_of B.Bank.model u.pool)) }
-    ensures laws { IfOk result (λ u. Kept (meaning_of P.Pairing.pairs P.Pairing.next) (told (map call_of calls.now) (map answer_of u.answers.items)) (state_of B.Bank.model u.pool)) }
+    ensures performed { IfOk result (λ u. AsDefined (performance (meaning_of P.pairs P.next) B.model setup calls.now u)) }
+    ensures laws { IfOk result (λ u. KeepsLaws (performance (meaning_of P.pairs P.next) B.model setup calls.now u)) }
 {
-    let Setup {
-        bank,
-        pairing,
-        seed,
-    } = setup;
-    let mut pool = Pool::open(heap, bank, pairing, seed)?;
+    let mut pool = Pool::open(setup.bank, setup.pairing, setup.seed);
     let answers = perform_all(heap, &mut pool, calls)?;
     Ok(Unit { pool, answers })
 }
@@ -62,6 +53,9 @@ pub fn start<B: Bank + Drop, P: Pairing + Drop>(
 // of both hold, and the laws of the two: they read alike exactly when their patch books agree; and if they were started
 // alike and given lists alike in all but the bytes written, they hold equal bytes in every frame exactly when they read
 // alike.
+//
+// A setup and its calls are no struct of their own, which would be no plainer: the setup is moved into the unit, and the
+// calls are lent, and read again by those who compare.
 pub fn start_both<B: Bank + Drop, P: Pairing + Drop, C: Bank + Drop, Q: Pairing + Drop>(
     heap: Global,
     one: Setup<B, P>,
@@ -69,15 +63,13 @@ pub fn start_both<B: Bank + Drop, P: Pairing + Drop, C: Bank + Drop, Q: Pairing 
     two: Setup<C, Q>,
     second_calls: &[Call],
 ) -> Result<Units<B, P, C, Q>, AllocError>
-    ensures first { IfOk result (λ u. Performed (meaning_of P.Pairing.pairs P.Pairing.next) (B.Bank.model one.bank) one.pairing one.seed (map call_of first_calls.now) (map answer_of u.first.answers.items) (state_of B.Bank.model u.first.pool)) }
-    ensures second { IfOk result (λ u. Performed (meaning_of Q.Pairing.pairs Q.Pairing.next) (C.Bank.model two.bank) two.pairing two.seed (map call_of second_calls.now) (map answer_of u.second.answers.items) (state_of C.Bank.model u.second.pool)) }
-    ensures first_laws { IfOk result (λ u. Kept (meaning_of P.Pairing.pairs P.Pairing.next) (told (map call_of first_calls.now) (map answer_of u.first.answers.items)) (state_of B.Bank.model u.first.pool)) }
-    ensures second_laws { IfOk result (λ u. Kept (meaning_of Q.Pairing.pairs Q.Pairing.next) (told (map call_of second_calls.now) (map answer_of u.second.answers.items)) (state_of C.Bank.model u.second.pool)) }
-    ensures both { IfOk result (λ u. Agree (start_with (meaning_of P.Pairing.pairs P.Pairing.next) (B.Bank.model one.bank) one.pairing one.seed (map call_of first_calls.now)) (told (map call_of first_calls.now) (map answer_of u.first.answers.items)) (state_of B.Bank.model u.first.pool) (start_with (meaning_of Q.Pairing.pairs Q.Pairing.next) (C.Bank.model two.bank) two.pairing two.seed (map call_of second_calls.now)) (told (map call_of second_calls.now) (map answer_of u.second.answers.items)) (state_of C.Bank.model u.second.pool)) }
+    ensures first { IfOk result (λ u. AsDefined (performance (meaning_of P.pairs P.next) B.model one first_calls.now u.first)) }
+    ensures second { IfOk result (λ u. AsDefined (performance (meaning_of Q.pairs Q.next) C.model two second_calls.now u.second)) }
+    ensures first_laws { IfOk result (λ u. KeepsLaws (performance (meaning_of P.pairs P.next) B.model one first_calls.now u.first)) }
+    ensures second_laws { IfOk result (λ u. KeepsLaws (performance (meaning_of Q.pairs Q.next) C.model two second_calls.now u.second)) }
+    ensures both { IfOk result (λ u. KeepLawsOfTwo (performance (meaning_of P.pairs P.next) B.model one first_calls.now u.first) (performance (meaning_of Q.pairs Q.next) C.model two second_calls.now u.second)) }
 {
     let first = start(heap, one, first_calls)?;
-    match start(heap, two, second_calls) {
-        Ok(second) => Ok(Units { first, second }),
-        Err(error) => Err(error),
-    }
+    let second = start(heap, two, second_calls)?;
+    Ok(Units { first, second })
 }

@@ -1,8 +1,15 @@
 -- The longest accepted read, looked for from the longest down, and what is heard by it.
 use Rattle.std.proofs.Common.{◌≡◌, ℕ, zero, suc, ◌-◌, ◌<◌, Bool, true, false, cond, List, is_some, Some, None, Option, Vec, sym, refl, ap, ◌∙◌, arith}
 use Rattle.std.specs.declared.alloc.Global.{Global}
-use Rattle.laws.specs.Reading.{Next, Heard, by_read, by_fetch, longest_read, reading_of}
+use Rattle.model.specs.Geometry.{desktop}
+use Rattle.model.specs.State.{State}
+use Rattle.model.specs.Mesh.{Meaning}
+use Rattle.laws.specs.Reading.{Next, next_of, Heard, by_read, by_fetch, longest_read, reading_of}
 use Rattle.verdicts.specs.Hearing.{bytes_of}
+
+-- what is read of a pool that is as it was is what was read of it
+pub read_same : {C : Type 0} (meaning : Meaning C) (l n : ℕ) {s t : State C} {read : Option (List ℕ)} → s ≡ t → read ≡ by_read (next_of desktop meaning s) l n → read ≡ by_read (next_of desktop meaning t) l n
+read_same meaning l n same is = is ∙ ap (λ s. by_read (next_of desktop meaning s) l n) same
 
 module _ (answers : Next) (l : ℕ) where
   longest-none : longest_read answers 0 l ≡ 0

@@ -1,3 +1,4 @@
+pub mod Equals
 pub mod Lengths
 pub mod Searches
 pub mod Telling

@@ -1,15 +1,11 @@
 -- The search for the first place at which two tables differ.
-use Rattle.std.proofs.Common.{◌≡◌, ℕ, ◌+◌, ◌<◌, Bool, true, false, Some, Decides, sym, ap, ◌∙◌, arith, below_more}
+use Rattle.std.proofs.Common.{◌≡◌, ℕ, ◌+◌, ◌<◌, Bool, true, false, Some, Decides, sym, ◌∙◌, arith, below_more}
 use Rattle.verdicts.specs.Apart.{FirstApart}
 
 module _ {A : Type 0} where
   -- a decision on two things decides on what they equal
   pub decides_of : (x y v w : A) (r : Bool) → x ≡ v → y ≡ w → Decides r (x ≡ y) → Decides r (v ≡ w)
   decides_of x y v w r a b d = (λ is. sym a ∙ (d.0 is ∙ b), λ is. d.1 (a ∙ (is ∙ sym b)))
-
-  -- a decision on two things is one on the options that hold them
-  pub decides_some : (x y : A) (r : Bool) → Decides r (x ≡ y) → Decides r (Some x ≡ Some y)
-  decides_some x y r d = (λ is. ap Some (d.0 is), λ is. d.1 (let e : x ≡ y = cc in e))
 
   module _ (one two : ℕ → A) (k : ℕ) (below : (j : ℕ) → j < k → one j ≡ two j) where
     -- no difference here, and the search goes on

@@ -5,8 +5,8 @@ use Rattle.std.proofs.lemmas.Bool.{eqb-false, or_parts}
 use Rattle.pairing.specs.declared.pairs.Pair.{Pair}
 use Rattle.pairing.specs.Pairs as pairs
 use Rattle.pairing.specs.Pairs.{paired}
-use Rattle.model.specs.Runs.{Unpaired, Fair}
-use Rattle.pool.specs.Pairings.{places_of}
+use Rattle.model.specs.Runs.{Unpaired, Fair, Lawful}
+use Rattle.pool.specs.Pairings.{places_of, meaning_of}
 
 unpaired_from : (k : ℕ) (ps : List Pair) → paired k ps ≡ false → Unpaired k (map places_of ps)
 unpaired_from k [] free = tt
@@ -22,3 +22,6 @@ fair_each ms (p ∷ ps) fair apart =
 
 pub fair-from : (ms : List ℕ) (ps : List Pair) → pairs.Lawful ms ps → Fair ms (map places_of ps)
 fair-from ms ps lawful = fair_each ms ps lawful.fair lawful.apart
+
+pub lawful_from : {C : Type 0} (proposed : C → List ℕ → List Pair) (next : C → List ℕ → C) → ((c : C) (ms : List ℕ) → pairs.Lawful ms (proposed c ms)) → Lawful (meaning_of proposed next)
+lawful_from proposed next lawful c ms = fair-from ms (proposed c ms) (lawful c ms)

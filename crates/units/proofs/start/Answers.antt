@@ -1,21 +1,18 @@
-use Rattle.std.proofs.Common.{map, vec_items, ap, ◌∙◌}
-use Rattle.model.specs.Runs.{Lawful}
-use Rattle.worked.proofs.Lawful.{fair-from}
-use Rattle.pool.specs.View.{state_of}
+use Rattle.std.proofs.Common.{map, ap, ◌∙◌}
+use Rattle.worked.proofs.Lawful.{lawful_from}
 use Rattle.pool.specs.Pairings.{meaning_of}
-use Rattle.calls.specs.Values.{call_of, answer_of, answered_by}
-use Rattle.units.specs.Performed.{Performed}
+use Rattle.calls.specs.Values.{call_of, answered_by}
+use Rattle.units.specs.Performance.{performance, AsDefined}
 use Rattle.units.proofs.Promised.{kept}
 use Rattle.units.proofs.start.Goals as goal
 
 pub returns : goal.returns
 returns g c =
     let meaning = meaning_of g.P.Pairing.pairs g.P.Pairing.next in
-    let lawful : Lawful meaning = λ k masks. fair-from masks (g.P.Pairing.pairs k masks) (g.met.P.Pairing.lawful k masks) in
-    let opened = c.in_ok-pool.ensures in
+    let lawful = lawful_from g.P.Pairing.pairs g.P.Pairing.next g.met.P.Pairing.lawful in
+    let opened = c.open-pool.ensures in
     let done = c.in_ok-answers.ensures in
-    let setup = c.args.setup in
-    let whole : Performed meaning (g.B.Bank.model setup.bank) setup.pairing setup.seed (map call_of c.args.calls.now) (map answer_of (vec_items c.in_ok-answers.answers)) (state_of g.B.Bank.model c.perform_all.new.pool) =
+    let whole : AsDefined (performance meaning g.B.Bank.model c.args.setup c.args.calls.now (record { pool = c.perform_all.new.pool; answers = c.in_ok-answers.answers })) =
     record {
       run = done.done ∙ ap (answered_by meaning (map call_of c.args.calls.now)) opened.opened;
       few = opened.few;

@@ -1,15 +1,13 @@
-use Rattle.model.specs.Runs.{Lawful}
-use Rattle.worked.proofs.Lawful.{fair-from}
-use Rattle.pool.specs.Pairings.{meaning_of}
+use Rattle.worked.proofs.Lawful.{lawful_from}
 use Rattle.units.proofs.Promised.{agree}
 use Rattle.units.proofs.start_both.Goals as goal
 
-pub returns-in-Ok : goal.returns-in-Ok
-returns-in-Ok g c =
-    let one : Lawful (meaning_of g.P.Pairing.pairs g.P.Pairing.next) = λ k masks. fair-from masks (g.P.Pairing.pairs k masks) (g.met.P.Pairing.lawful k masks) in
-    let two : Lawful (meaning_of g.Q.Pairing.pairs g.Q.Pairing.next) = λ k masks. fair-from masks (g.Q.Pairing.pairs k masks) (g.met.Q.Pairing.lawful k masks) in
+pub returns : goal.returns
+returns g c =
+    let one = lawful_from g.P.Pairing.pairs g.P.Pairing.next g.met.P.Pairing.lawful in
+    let two = lawful_from g.Q.Pairing.pairs g.Q.Pairing.next g.met.Q.Pairing.lawful in
     let first = c.in_ok-first.ensures in
-    let second = c.in-Ok.ensures in
+    let second = c.in_ok-second.ensures in
     record {
       first = first.performed;
       second = second.performed;

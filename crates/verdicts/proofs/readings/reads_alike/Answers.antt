@@ -2,7 +2,6 @@ use Rattle.std.proofs.Common.{◌≡◌, ℕ, ◌+◌, ◌<◌, Bool, true, fals
 use Rattle.model.specs.State.{State}
 use Rattle.model.specs.Mesh.{Meaning}
 use Rattle.laws.specs.Book.{Addresses}
-use Rattle.pool.specs.View.{state_of}
 use Rattle.pool.specs.Pairings.{meaning_of}
 use Rattle.verdicts.specs.Apart.{FirstApart}
 use Rattle.verdicts.specs.Hearing.{addresses_in, reading_at}
@@ -26,33 +25,17 @@ loop-label-preserved g c =
       c.same_reading.ensures.one ∙ inv.0,
       c.same_reading.ensures.two ∙ inv.1,
       alike (meaning_of g.P.Pairing.pairs g.P.Pairing.next) (meaning_of g.Q.Pairing.pairs g.Q.Pairing.next) (addresses_in c.args.first_one.now) (addresses_in c.args.first_two.now)
-          (state_of g.B.Bank.model c.args.one.now) (state_of g.C.Bank.model c.args.two.now) c.loop-label.label inv.2
-          (state_of g.B.Bank.model c.loop-label.one) (state_of g.C.Bank.model c.loop-label.two) inv.0 inv.1 c.in_ok-alike.alike c.in_ok-alike.ensures.same c.if-not-alike.false,
+          _ _ c.loop-label.label inv.2 _ _ inv.0 inv.1 _ c.in_ok-same_reading.ensures.same c.if-not-branch.false,
     )
 
-pub returns : goal.returns
-returns g c = absurd (omega (arith, c.loop-label-test.false, c.loop-label.auto.label-end))
-
-pub returns-else-not-alike : goal.returns-else-not-alike
-returns-else-not-alike g c =
+pub returns-else-not-branch-clause-apart : goal.returns-else-not-branch-clause-apart
+returns-else-not-branch-clause-apart g c k inside =
     let inv = c.loop-label.invariant in
-    record {
-      apart = λ k inside.
-          alike (meaning_of g.P.Pairing.pairs g.P.Pairing.next) (meaning_of g.Q.Pairing.pairs g.Q.Pairing.next) (addresses_in c.args.first_one.now) (addresses_in c.args.first_two.now)
-          (state_of g.B.Bank.model c.args.one.now) (state_of g.C.Bank.model c.args.two.now) c.loop-label.label inv.2
-          (state_of g.B.Bank.model c.loop-label.one) (state_of g.C.Bank.model c.loop-label.two) inv.0 inv.1 c.in_ok-alike.alike c.in_ok-alike.ensures.same c.if-not-alike.false
-          k (omega arith);
-      one = c.same_reading.ensures.one ∙ inv.0;
-      two = c.same_reading.ensures.two ∙ inv.1;
-    }
+    alike (meaning_of g.P.Pairing.pairs g.P.Pairing.next) (meaning_of g.Q.Pairing.pairs g.Q.Pairing.next) (addresses_in c.args.first_one.now) (addresses_in c.args.first_two.now)
+    _ _ c.loop-label.label inv.2 _ _ inv.0 inv.1 _ c.in_ok-same_reading.ensures.same c.if-not-branch.false k (omega arith)
 
-pub returns-then-not-alike : goal.returns-then-not-alike
-returns-then-not-alike g c =
+pub returns-then-not-branch-clause-apart : goal.returns-then-not-branch-clause-apart
+returns-then-not-branch-clause-apart g c =
     let inv = c.loop-label.invariant in
-    record {
-      apart = unlike (meaning_of g.P.Pairing.pairs g.P.Pairing.next) (meaning_of g.Q.Pairing.pairs g.Q.Pairing.next) (addresses_in c.args.first_one.now) (addresses_in c.args.first_two.now)
-          (state_of g.B.Bank.model c.args.one.now) (state_of g.C.Bank.model c.args.two.now) c.loop-label.label inv.2
-          (state_of g.B.Bank.model c.loop-label.one) (state_of g.C.Bank.model c.loop-label.two) inv.0 inv.1 c.in_ok-alike.alike c.in_ok-alike.ensures.same (omega (arith, c.loop-label-test.true)) c.if-not-alike.true;
-      one = c.same_reading.ensures.one ∙ inv.0;
-      two = c.same_reading.ensures.two ∙ inv.1;
-    }
+    unlike (meaning_of g.P.Pairing.pairs g.P.Pairing.next) (meaning_of g.Q.Pairing.pairs g.Q.Pairing.next) (addresses_in c.args.first_one.now) (addresses_in c.args.first_two.now)
+    _ _ c.loop-label.label inv.2 _ _ inv.0 inv.1 _ c.in_ok-same_reading.ensures.same (omega (arith, c.loop-label-test.true)) c.if-not-branch.true
