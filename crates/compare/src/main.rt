@@ -1,35 +1,32 @@
 // Plays two command lists, each on a unit of its own, and says whether the two units sound the same.
 #![tactic(auto)]
 
-use anyhow::anyhow;
+use anyhow::bail;
 use bank::Bank;
 use banks::FlatBank;
 use calls::Call;
 use comparison::compare;
-use desk::calls_of;
+use desk::{MEMORY, MOST_BYTES, calls_of};
+use model::Counts;
 use pairing::Greedy;
 use std::env;
 use std::fs::File;
 use std::io::Read;
 use units::{Setup, Unit};
 
-// At most so many bytes of a list are played.
-const MOST_BYTES: u64 = 65536;
-
-// Each unit's bank has 8 frames.
-const MEMORY: usize = 8192;
-
-// The calls of the command list in a file.
+// The calls of the command list in a file. (`play` reads its list so, too: what the two share is three calls of the library,
+// over different readers.)
 fn calls_in_file(rt: &HostRuntime, path: &str) -> anyhow::Result<Vec<Call>> {
     let heap = rt.alloc();
     let mut bytes = Vec::new(heap);
     File::open(rt, path)?
         .take(MOST_BYTES)
         .read_to_end(&mut bytes)?;
-    Ok(calls_of(heap, bytes.as_slice())?)
+    Ok(calls_of(heap, &bytes)?)
 }
 
-// The unit of the desk: a flat bank over the memory, Greedy, and seed 1.
+// The unit of the desk: a flat bank over the memory, Greedy, and seed 1. (`play` makes the same one. A function for both
+// would stand in `desk`, which names no bank, and would have to repeat the bank's whole contract.)
 fn setup(memory: &mut [u8]) -> Setup<FlatBank<'_>, Greedy> {
     Setup {
         bank: FlatBank::new(memory),
@@ -41,33 +38,34 @@ fn setup(memory: &mut [u8]) -> Setup<FlatBank<'_>, Greedy> {
 // Prints what a unit has done.
 fn tell<B: Bank, P>(rt: &HostRuntime, name: &str, unit: &mut Unit<B, P>) -> anyhow::Result<()> {
     let calls = unit.answers.len();
-    let counts = unit.pool.count();
-    let frames = counts.frames;
-    let spans = counts.spans;
-    let labels = counts.labels;
+    let Counts {
+        frames,
+        spans,
+        labels,
+    } = unit.pool.count();
     println!(rt; "{name}: {calls} calls, {frames} frames out, {spans} spans, {labels} labels")?;
     Ok(())
 }
 
-fn run(rt: &HostRuntime) -> anyhow::Result<()> {
+fn main(rt: HostRuntime) -> anyhow::Result<()> {
     let heap = rt.alloc();
-    let mut arguments = env::args(rt)?.skip(1);
+    let mut arguments = env::args(&rt)?.skip(1);
     let (Some(first_path), Some(second_path)) = (arguments.next(), arguments.next()) else {
-        return Err(anyhow!("usage: compare FIRST SECOND, two files with command lists"));
+        bail!("usage: compare FIRST SECOND, two files with command lists");
     };
-    let first_calls = calls_in_file(rt, first_path.as_str())?;
-    let second_calls = calls_in_file(rt, second_path.as_str())?;
+    let first_calls = calls_in_file(&rt, first_path.as_str())?;
+    let second_calls = calls_in_file(&rt, second_path.as_str())?;
     let mut first_memory = vec![in heap; 0u8; MEMORY]?;
     let mut second_memory = vec![in heap; 0u8; MEMORY]?;
     let mut compared = compare(
         heap,
-        setup(first_memory.as_mut_slice()),
-        first_calls.as_slice(),
-        setup(second_memory.as_mut_slice()),
-        second_calls.as_slice(),
+        setup(&mut first_memory),
+        &first_calls,
+        setup(&mut second_memory),
+        &second_calls,
     )?;
-    tell(rt, "first", &mut compared.first)?;
-    tell(rt, "second", &mut compared.second)?;
+    tell(&rt, "first", &mut compared.first)?;
+    tell(&rt, "second", &mut compared.second)?;
     match compared.label {
         Some(label) => println!(rt; "label {label} reads differently")?,
         None => println!(rt; "all labels read alike")?,
@@ -77,8 +75,4 @@ fn run(rt: &HostRuntime) -> anyhow::Result<()> {
         None => println!(rt; "all frames hold equal bytes")?,
     }
     Ok(())
-}
-
-fn main(rt: HostRuntime) -> anyhow::Result<()> {
-    run(&rt)
 }

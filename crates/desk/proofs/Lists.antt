@@ -1,51 +1,34 @@
--- The walk over a list of command bytes that gathers its calls.
-use Rattle.std.proofs.Common.{◌≡◌, ℕ, zero, suc, ◌+◌, ◌<◌, ◌≤◌, List, [], ◌∷◌, ◌++◌, map, length, drop, Ok, Err, sym, refl, ap, ◌∙◌, append_assoc, one-add, arith}
-use Rattle.std.proofs.lemmas.List.{append-nil}
+-- The calls that a list of command bytes asks for, gathered from what stands in it.
+use Rattle.std.proofs.Common.{◌≡◌, ℕ, zero, suc, ◌+◌, List, [], ◌∷◌, ◌++◌, map, Ok, Err, Result, sym, refl, ap, ◌∙◌}
 use Rattle.refusal.specs.declared.Refusal.{Refusal}
 use Rattle.model.specs.Runs as runs
 use Rattle.playback.specs.declared.command.Command.{Command}
 use Rattle.playback.specs.Format.{operands, decoded, called}
-use Rattle.playback.proofs.Walk.{decoded-long}
-use Rattle.desk.specs.Commands.{commanding, commands}
+use Rattle.playback.specs.Found.{placed, found}
+use Rattle.desk.specs.Commands.{commanding, commands, calls_in}
 
-commands_on : (k : ℕ) (bytes : List ℕ) → k ≤ length bytes → commands k bytes ≡ commands 0 (drop k bytes)
-unfolding commands
-commands_on zero bytes there = refl
-commands_on (suc k) [] there = let never : ⊥ = omega arith in absurd never
-commands_on (suc k) (byte ∷ bytes) there = commands_on k bytes (omega arith)
+-- the commands among what stands in a list
+abbrev pub with_command : Result Command Refusal → List Command → List Command
+with_command (Err e) rest = rest
+with_command (Ok command) rest = command ∷ rest
 
-begun : (byte : ℕ) (bytes : List ℕ) → commands 0 (byte ∷ bytes) ≡ commanding (λ left. commands left bytes) (decoded (byte ∷ bytes))
-unfolding commands
-begun byte bytes = refl
+abbrev pub accepted : List (ℕ × Result Command Refusal) → List Command
+accepted [] = []
+accepted (item ∷ items) = with_command item.1 (accepted items)
 
-none_left : commands 0 [] ≡ []
-unfolding commands
-none_left = refl
+accepted_so : (rest : ℕ → List Command) (later : ℕ → List (ℕ × Result Command Refusal)) → ((k : ℕ) → rest k ≡ accepted (later k)) → (at : ℕ) (d : Result Command Refusal) → commanding rest d ≡ accepted (placed later at d)
+accepted_so rest later same at (Err e) = refl
+accepted_so rest later same at (Ok command) = ap (λ commands. command ∷ commands) (same (operands command))
 
-next : (bytes : List ℕ) (command : Command) → 0 < length bytes → decoded bytes ≡ Ok command → commands 0 bytes ≡ command ∷ commands 0 (drop (1 + operands command) bytes)
-next [] command some is = let never : ⊥ = omega arith in absurd never
-next (byte ∷ bytes) command some is =
-    begun byte bytes ∙ ap (commanding (λ left. commands left bytes)) is
-    ∙ ap (λ rest. command ∷ rest)
-    (commands_on (operands command) bytes (omega (arith, decoded-long (byte ∷ bytes) command is))
-    ∙ ap (λ k. commands 0 (drop k (byte ∷ bytes))) (sym (one-add (operands command))))
+commands-accepted : (k at : ℕ) (bytes : List ℕ) → commands k bytes ≡ accepted (found k at bytes)
+unfolding commands found
+commands-accepted k at [] = refl
+commands-accepted (suc k) at (byte ∷ bytes) = commands-accepted k (at + 1) bytes
+commands-accepted zero at (byte ∷ bytes) =
+    accepted_so (λ k. commands k bytes) (λ k. found k (at + 1) bytes) (λ k. commands-accepted k (at + 1) bytes) at (decoded (byte ∷ bytes))
 
-fault : (bytes : List ℕ) (e : Refusal) → 0 < length bytes → decoded bytes ≡ Err e → commands 0 bytes ≡ []
-fault [] e some is = none_left
-fault (byte ∷ bytes) e some is = begun byte bytes ∙ ap (commanding (λ left. commands left bytes)) is
-
-module _ (calls : List runs.Call) (all : List runs.Call) (bytes : List ℕ) (so_far : calls ++ map called (commands 0 bytes) ≡ all) where
-  -- a turn of the loop that gathers a call
-  pub gathered : (command : Command) (rest : List ℕ) (call : runs.Call) (more : List runs.Call) → 0 < length bytes → decoded bytes ≡ Ok command → rest ≡ drop (1 + operands command) bytes → call ≡ called command → more ≡ calls ++ call ∷ [] → more ++ map called (commands 0 rest) ≡ all
-  gathered command rest call more some is cut same pushed =
-      ap (λ cs. cs ++ map called (commands 0 rest)) pushed ∙ append_assoc calls (call ∷ []) (map called (commands 0 rest))
-      ∙ ap (λ c. calls ++ (c ∷ map called (commands 0 rest))) same
-      ∙ ap (λ r. calls ++ (called command ∷ map called (commands 0 r))) cut
-      ∙ ap (λ cs. calls ++ map called cs) (sym (next bytes command some is)) ∙ so_far
-
-  -- a fault ends the list
-  pub faulted : (e : Refusal) → 0 < length bytes → decoded bytes ≡ Err e → calls ≡ all
-  faulted e some is = sym (append-nil calls) ∙ ap (λ cs. calls ++ map called cs) (sym (fault bytes e some is)) ∙ so_far
-
-  pub finished : bytes ≡ [] → calls ≡ all
-  finished none = sym (append-nil calls) ∙ ap (λ cs. calls ++ map called cs) (sym (ap (commands 0) none ∙ none_left)) ∙ so_far
+-- before the first call is gathered
+pub gathering-begins : (calls : List runs.Call) (left : List (ℕ × Result Command Refusal)) (bytes : List ℕ) → calls ≡ [] → left ≡ found 0 0 bytes → calls ++ map called (accepted left) ≡ calls_in bytes
+gathering-begins calls left bytes none whole =
+    ap (λ cs. cs ++ map called (accepted left)) none ∙ ap (λ items. map called (accepted items)) whole
+    ∙ ap (map called) (sym (commands-accepted 0 0 bytes))

@@ -11,15 +11,21 @@ ghost use Rattle.playback.specs.Playing.{played};
 ghost use Rattle.model.specs.Runs.{told};
 ghost use Rattle.units.specs.Promises.{Kept};
 ghost use Rattle.desk.specs.Commands.{calls_in};
-ghost use Rattle.desk.specs.Transcript.{ended, transcript as transcript_of};
+ghost use Rattle.desk.specs.Transcript.{transcript as transcript_of};
 
 use bank::Bank;
 use calls::Call;
 use pairing::Pairing;
-use playback::{Line, call, decode, play};
+use playback::{Commands, Line, play};
 use pool::Pool;
 use std::alloc::{AllocError, Global};
 use units::Setup;
+
+// At most so many bytes of a list are played by the programs.
+pub const MOST_BYTES: u64 = 65536;
+
+// In the programs the memory of a unit's bank has so many bytes, which is 8 frames.
+pub const MEMORY: usize = 8192;
 
 // A unit that played a list of command bytes: its pool as it is now, and a line for each command.
 #[derive(Drop)]
@@ -35,34 +41,22 @@ pub fn play_on<B: Bank + Drop, P: Pairing + Drop>(
     setup: Setup<B, P>,
     input: &[u8],
 ) -> Result<Played<B, P>, AllocError>
-    ensures lines { IfOk result (λ d. (d.lines.items, state_of B.Bank.model d.pool) ≡ played desktop (meaning_of P.Pairing.pairs P.Pairing.next) input.now (opened_pool desktop (B.Bank.model setup.bank) setup.pairing setup.seed)) }
-    ensures laws { IfOk result (λ d. Kept (meaning_of P.Pairing.pairs P.Pairing.next) (told (calls_in input.now) (answered_by (meaning_of P.Pairing.pairs P.Pairing.next) (calls_in input.now) (opened_pool desktop (B.Bank.model setup.bank) setup.pairing setup.seed)).0) (state_of B.Bank.model d.pool)) }
+    ensures lines { IfOk result (λ d. (d.lines.items, state_of B.model d.pool) ≡ played desktop (meaning_of P.pairs P.next) input.now (opened_pool desktop (B.model setup.bank) setup.pairing setup.seed)) }
+    ensures laws { IfOk result (λ d. Kept (meaning_of P.pairs P.next) (told (calls_in input.now) (answered_by (meaning_of P.pairs P.next) (calls_in input.now) (opened_pool desktop (B.model setup.bank) setup.pairing setup.seed)).0) (state_of B.model d.pool)) }
 {
-    let Setup {
-        bank,
-        pairing,
-        seed,
-    } = setup;
-    let mut pool = Pool::open(heap, bank, pairing, seed)?;
+    let mut pool = Pool::open(setup.bank, setup.pairing, setup.seed);
     let lines = play(heap, &mut pool, input)?;
     Ok(Played { pool, lines })
 }
 
-// A line, with the newline that ends it.
-fn ended_line(heap: Global, line: Line) -> Result<String, AllocError>
-    ensures { IfOk result (λ text. string_bytes text ≡ ended line) }
-{
-    format!(in heap; "{line}\n")
-}
-
 // The listing: the header, and the lines, each ended by a newline.
+#[tactic(auto, unfolding(crate::specs::Transcript::transcript))]
 pub fn transcript(heap: Global, lines: &[Line]) -> Result<String, AllocError>
     ensures { IfOk result (λ text. string_bytes text ≡ transcript_of lines.now) }
 {
     let mut text = String::from_str(heap, "at cmd answer frames\n")?;
     for line in lines {
-        let told = ended_line(heap, *line)?;
-        text.push_str(told.as_str())?;
+        writeln!(text, "{line}")?;
     }
     Ok(text)
 }
@@ -72,14 +66,9 @@ pub fn calls_of(heap: Global, input: &[u8]) -> Result<Vec<Call>, AllocError>
     ensures { IfOk result (λ calls. map call_of calls.items ≡ calls_in input.now) }
 {
     let mut calls = Vec::new(heap);
-    let mut rest = input;
-    while !rest.is_empty() {
-        match decode(rest) {
-            Ok(decoded) => {
-                calls.push(call(heap, decoded.command)?)?;
-                rest = decoded.rest;
-            }
-            Err(_) => return Ok(calls),
+    for (_, found) in Commands::new(input) {
+        if let Ok(command) = found {
+            calls.push(command.to_call(heap)?)?;
         }
     }
     Ok(calls)

@@ -1,3 +1,4 @@
 pub mod Format
+pub mod Found
 pub mod Playing
 pub mod Text

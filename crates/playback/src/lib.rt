@@ -3,8 +3,10 @@
 
 mod command;
 mod line;
+mod list;
 mod run;
 
-pub use command::{Command, Decoded, call, decode};
+pub use command::{Command, Decoded, decode};
 pub use line::{Fault, Layer, Line, Outcome};
+pub use list::Commands;
 pub use run::play;

@@ -1,11 +1,11 @@
 // Lines: what is told of each command.
-ghost use Rattle.std.specs.Prelude.{◌≡◌, if◌then◌else◌, Some, slice_index};
+ghost use Rattle.std.specs.Prelude.{◌≡◌, Some};
 ghost use Rattle.calls.specs.Values.{answer_of};
 ghost use Rattle.playback.specs.Playing.{layer_of, fault_of, outcome_of};
-ghost use Rattle.playback.specs.Text.{number_of, layer_number, outcome_text, line_text};
+ghost use Rattle.playback.specs.Text.{outcome_text, line_text};
 
 use calls::Answer;
-use model::{Counts, Meshed};
+use model::{Counts, Made, Meshed};
 use refusal::Refusal;
 use std::fmt;
 
@@ -25,10 +25,11 @@ pub struct Fault {
     pub refusal: Refusal,
 }
 
-// What a command answered.
+// What a command answered. (An enum of its own, since a `Result` could not have a `Display` from here, and the two places
+// that print an outcome would have to match it.)
 #[derive(Clone, Copy, PartialEq, Eq, Debug)]
 pub enum Outcome {
-    Made(model::Made),
+    Made(Made),
     Written(u32),
     Byte(u8),
     Address(u32),
@@ -39,7 +40,8 @@ pub enum Outcome {
 }
 
 // The line of a command: its byte place, its letter (a question mark where the list itself is at fault), what it
-// answered, and how many frames are out afterwards.
+// answered, and how many frames are out afterwards. (The letter is what is printed. With an `Option` its reader would have
+// to turn `None` back into the question mark.)
 #[derive(Clone, Copy, PartialEq, Eq, Debug)]
 pub struct Line {
     pub at: usize,
@@ -48,14 +50,16 @@ pub struct Line {
     pub frames: u32,
 }
 
-// The layer that finds a refusal.
-fn found_by(refusal: Refusal) -> Layer
-    ensures { result ≡ layer_of refusal }
-{
-    match refusal {
-        Refusal::Command | Refusal::Cut => Layer::Playback,
-        Refusal::Frames => Layer::Bank,
-        _ => Layer::Pool,
+impl From<Refusal> for Layer {
+    ghost from_gives = { λ refusal layer. layer ≡ layer_of refusal };
+
+    // The layer that finds a refusal.
+    fn from(refusal: Refusal) -> Layer {
+        match refusal {
+            Refusal::Command | Refusal::Cut => Layer::Playback,
+            Refusal::Frames => Layer::Bank,
+            _ => Layer::Pool,
+        }
     }
 }
 
@@ -65,63 +69,33 @@ pub fn refused(at: usize, refusal: Refusal) -> Outcome
 {
     Outcome::Refused(Fault {
         at,
-        layer: found_by(refusal),
+        layer: Layer::from(refusal),
         refusal,
     })
 }
 
-// The first byte, or 0 where there is none.
-fn first_byte(bytes: &[u8]) -> u8
-    ensures { result ≡ slice_index bytes.now 0 }
-{
-    match bytes {
-        [first, ..] => *first,
-        [] => 0,
-    }
-}
-
-// What a line tells of an answer.
+// What a line tells of an answer. Of the bytes of a read or a fetch it is the first, or 0 where there is none.
 pub fn tell(at: usize, answer: &Answer) -> Outcome
     ensures { result ≡ outcome_of at (answer_of answer.now) }
 {
     match answer {
         Answer::ToNew(Ok(made)) => Outcome::Made(*made),
-        Answer::ToNew(Err(refusal)) => refused(at, *refusal),
         Answer::ToWrite(Ok(count)) => Outcome::Written(*count),
-        Answer::ToWrite(Err(refusal)) => refused(at, *refusal),
-        Answer::ToRead(Ok(bytes)) => Outcome::Byte(first_byte(bytes.as_slice())),
-        Answer::ToRead(Err(refusal)) => refused(at, *refusal),
-        Answer::ToFetch(Ok(bytes)) => Outcome::Byte(first_byte(bytes.as_slice())),
-        Answer::ToFetch(Err(refusal)) => refused(at, *refusal),
+        Answer::ToRead(Ok(bytes)) | Answer::ToFetch(Ok(bytes)) => {
+            Outcome::Byte(bytes.first().copied().unwrap_or(0))
+        }
         Answer::ToPlace(Ok(address)) => Outcome::Address(*address),
-        Answer::ToPlace(Err(refusal)) => refused(at, *refusal),
         Answer::ToDelete(Ok(emptied)) => Outcome::Freed(*emptied),
-        Answer::ToDelete(Err(refusal)) => refused(at, *refusal),
         Answer::ToMesh(Ok(meshed)) => Outcome::Merged(*meshed),
-        Answer::ToMesh(Err(refusal)) => refused(at, *refusal),
         Answer::ToCount(counts) => Outcome::Counted(*counts),
+        Answer::ToNew(Err(refusal))
+        | Answer::ToWrite(Err(refusal))
+        | Answer::ToRead(Err(refusal))
+        | Answer::ToFetch(Err(refusal))
+        | Answer::ToPlace(Err(refusal))
+        | Answer::ToDelete(Err(refusal))
+        | Answer::ToMesh(Err(refusal)) => refused(at, *refusal),
     }
-}
-
-// 1 for what came about, 0 for what did not.
-fn digit(flag: bool) -> u8
-    ensures { result ≡ (if flag then 1 else 0) }
-{
-    if flag { 1 } else { 0 }
-}
-
-// The number of a refusal.
-fn number(refusal: Refusal) -> u8
-    ensures { result ≡ number_of refusal }
-{
-    refusal as u8
-}
-
-// The number of a layer.
-fn layer_digit(layer: Layer) -> u8
-    ensures { result ≡ layer_number layer }
-{
-    layer as u8
 }
 
 impl fmt::Display for Outcome {
@@ -129,33 +103,23 @@ impl fmt::Display for Outcome {
 
     fn fmt<W: fmt::Write>(&self, f: &mut fmt::Formatter<W>) -> fmt::Result {
         match self {
-            Outcome::Made(made) => {
-                let address = made.address;
-                let opened = digit(made.opened);
-                write!(f, "{address}/{opened}")
+            Outcome::Made(Made { address, opened }) => {
+                write!(f, "{address}/{}", u8::from(*opened))
             }
             Outcome::Written(count) => write!(f, "{count}"),
             Outcome::Byte(byte) => write!(f, "{byte}"),
             Outcome::Address(address) => write!(f, "{address}"),
-            Outcome::Freed(emptied) => {
-                let emptied = digit(*emptied);
-                write!(f, "{emptied}")
-            }
-            Outcome::Merged(meshed) => {
-                let merges = meshed.merges;
-                let bytes = meshed.bytes;
-                write!(f, "{merges}/{bytes}")
-            }
-            Outcome::Counted(counts) => {
-                let frames = counts.frames;
-                let spans = counts.spans;
-                let labels = counts.labels;
-                write!(f, "{frames}/{spans}/{labels}")
-            }
-            Outcome::Refused(fault) => {
-                let layer = layer_digit(fault.layer);
-                let number = number(fault.refusal);
-                write!(f, "!{layer}.{number}")
+            Outcome::Freed(emptied) => write!(f, "{}", u8::from(*emptied)),
+            Outcome::Merged(Meshed { merges, bytes }) => write!(f, "{merges}/{bytes}"),
+            Outcome::Counted(
+                Counts {
+                    frames,
+                    spans,
+                    labels,
+                },
+            ) => write!(f, "{frames}/{spans}/{labels}"),
+            Outcome::Refused(Fault { layer, refusal, .. }) => {
+                write!(f, "!{}.{}", *layer as u8, *refusal as u8)
             }
         }
     }
@@ -165,10 +129,12 @@ impl fmt::Display for Line {
     ghost output = { λ x. Some (line_text x) };
 
     fn fmt<W: fmt::Write>(&self, f: &mut fmt::Formatter<W>) -> fmt::Result {
-        let at = self.at;
-        let letter = self.letter;
-        let outcome = self.outcome;
-        let frames = self.frames;
+        let Line {
+            at,
+            letter,
+            outcome,
+            frames,
+        } = self;
         write!(f, "{at} {letter} {outcome} {frames}")
     }
 }

@@ -7,8 +7,9 @@ ghost use Rattle.pool.specs.Pairings.{meaning_of};
 ghost use Rattle.playback.specs.Format.{called};
 ghost use Rattle.playback.specs.Playing.{told_with, broken, played};
 
-use crate::command::{Command, call, decode, letter};
+use crate::command::Command;
 use crate::line::{Line, refused, tell};
+use crate::list::Commands;
 use bank::Bank;
 use calls::perform;
 use pairing::Pairing;
@@ -23,13 +24,12 @@ fn perform_command<B: Bank, P: Pairing>(
     at: usize,
     command: Command,
 ) -> Result<Line, AllocError>
-    ensures { IfOk result (λ line. (line, state_of B.Bank.model pool.new) ≡ told_with desktop at command (model_step desktop (meaning_of P.Pairing.pairs P.Pairing.next) (called command) (state_of B.Bank.model pool.old))) }
+    ensures { IfOk result (λ line. (line, state_of B.model pool.new) ≡ told_with desktop at command (model_step desktop (meaning_of P.pairs P.next) (called command) (state_of B.model pool.old))) }
 {
-    let call = call(heap, command)?;
-    let answer = perform(heap, pool, &call)?;
+    let answer = perform(heap, pool, &command.to_call(heap)?)?;
     Ok(Line {
         at,
-        letter: letter(command),
+        letter: command.letter(),
         outcome: tell(at, &answer),
         frames: pool.count().frames,
     })
@@ -37,8 +37,8 @@ fn perform_command<B: Bank, P: Pairing>(
 
 // Tells of a fault in the list itself.
 fn tell_fault<B: Bank, P>(pool: &mut Pool<B, P>, at: usize, refusal: Refusal) -> Line
-    ensures line { result ≡ broken desktop at refusal (state_of B.Bank.model pool.old) }
-    ensures same { state_of B.Bank.model pool.new ≡ state_of B.Bank.model pool.old }
+    ensures line { result ≡ broken desktop at refusal (state_of B.model pool.old) }
+    ensures same { state_of B.model pool.new ≡ state_of B.model pool.old }
 {
     Line {
         at,
@@ -55,22 +55,15 @@ pub fn play<B: Bank, P: Pairing>(
     pool: &mut Pool<B, P>,
     input: &[u8],
 ) -> Result<Vec<Line>, AllocError>
-    ensures { IfOk result (λ lines. (lines.items, state_of B.Bank.model pool.new) ≡ played desktop (meaning_of P.Pairing.pairs P.Pairing.next) input.now (state_of B.Bank.model pool.old)) }
+    ensures { IfOk result (λ lines. (lines.items, state_of B.model pool.new) ≡ played desktop (meaning_of P.pairs P.next) input.now (state_of B.model pool.old)) }
 {
     let mut lines = Vec::new(heap);
-    let mut rest = input;
-    while !rest.is_empty() {
-        let at = input.len() - rest.len();
-        match decode(rest) {
-            Ok(decoded) => {
-                lines.push(perform_command(heap, pool, at, decoded.command)?)?;
-                rest = decoded.rest;
-            }
-            Err(refusal) => {
-                lines.push(tell_fault(pool, at, refusal))?;
-                return Ok(lines);
-            }
-        }
+    for (at, found) in Commands::new(input) {
+        let line = match found {
+            Ok(command) => perform_command(heap, pool, at, command)?,
+            Err(refusal) => tell_fault(pool, at, refusal),
+        };
+        lines.push(line)?;
     }
     Ok(lines)
 }

@@ -14,11 +14,11 @@ use Rattle.desk.specs.Commands.{calls_in}
 use Rattle.desk.proofs.Ends.{plays-end, calls-known}
 use Rattle.desk.proofs.play_on.Goals as goal
 
-pub returns : goal.returns
-returns g c =
+pub returns-clause-laws : goal.returns-clause-laws
+returns-clause-laws g c =
     let meaning = meaning_of g.P.Pairing.pairs g.P.Pairing.next in
     let lawful : runs.Lawful meaning = λ k masks. fair-from masks (g.P.Pairing.pairs k masks) (g.met.P.Pairing.lawful k masks) in
-    let began = c.in_ok-pool.ensures in
+    let began = c.open-pool.ensures in
     let setup = c.args.setup in
     let input = c.args.input.now in
     let start = opened desktop (g.B.Bank.model setup.bank) setup.pairing setup.seed in
@@ -32,4 +32,4 @@ returns g c =
       proper = began.proper;
       known = calls-known 0 input (λ i. search rules);
     } in
-    record { lines = told; laws = kept lawful whole }
+    kept lawful whole
