@@ -31,7 +31,7 @@ fn perform_command<B: Bank, P: Pairing>(
         at,
         letter: command.letter(),
         outcome: tell(at, &answer),
-        frames: pool.count().frames,
+        frames: pool.frames_out(),
     })
 }
 
@@ -44,7 +44,7 @@ fn tell_fault<B: Bank, P>(pool: &mut Pool<B, P>, at: usize, refusal: Refusal) ->
         at,
         letter: '?',
         outcome: refused(at, refusal),
-        frames: pool.count().frames,
+        frames: pool.frames_out(),
     }
 }
 

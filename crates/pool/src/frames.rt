@@ -1,6 +1,8 @@
 // What a pool's bank holds, for those who would see every byte of it.
 ghost use Rattle.std.specs.Prelude.{◌≡◌};
 ghost use Rattle.bank.specs.Model.{read as read_frame};
+ghost use Rattle.model.specs.Geometry.{desktop};
+ghost use Rattle.model.specs.Calls.{count};
 ghost use Rattle.pool.specs.View.{state_of};
 
 use crate::Pool;
@@ -8,6 +10,14 @@ use bank::Bank;
 use refusal::Refusal;
 
 impl<B: Bank, P> Pool<B, P> {
+    // How many frames are out: the first number of `count`, alone.
+    pub fn frames_out(&mut self) -> u32
+        ensures out { result ≡ (count desktop (state_of B.model self.old)).frames }
+        ensures same { state_of B.model self.new ≡ state_of B.model self.old }
+    {
+        self.rows.out()
+    }
+
     // How many frames the pool's bank has.
     pub fn size(&mut self) -> u32
         ensures size { result ≡ (state_of B.model self.old).bank.size }
