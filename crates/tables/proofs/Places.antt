@@ -1,6 +1,6 @@
 -- What the definitions that go over the numbers of places say of a whole table.
-use Rattle.std.proofs.Common.{◌≡◌, ℕ, zero, suc, ◌+◌, ◌<◌, ◌≤◌, Bool, true, false, cond, List, [], ◌∷◌, ◌++◌, length, get_or, take, Some, fold, sym, refl, ap, ◌∙◌, subst, add-one, add-zero, arith}
-use Rattle.std.specs.List.{range_with_len, filter, count_by, position, position_from, enumerate_from}
+use Rattle.std.proofs.Common.{◌≡◌, ℕ, zero, suc, ◌+◌, ◌<◌, ◌≤◌, Bool, true, false, cond, List, [], ◌∷◌, ◌++◌, length, get_or, take, Some, sym, refl, ap, ◌∙◌, subst, add-one, add-zero, arith}
+use Rattle.std.specs.List.{range_with_len, filter, count_by, position, position_from}
 use Rattle.std.proofs.lemmas.List.{take_all}
 use Rattle.std.proofs.lemmas.List.Filters.{length-filter_more}
 use Rattle.std.proofs.lemmas.List.Sums.{length-filter}
@@ -47,22 +47,6 @@ first-table d test xs n all =
     ap (λ m. first_of (filter passes (range_with_len 0 m))) (sym all)
     ∙ first_from d test passes 0 xs (λ k below. ap passes (let e : 0 + k ≡ k = omega arith in e))
     ∙ sym (position_from-zero test xs)
-
-fold_from : {A B : Type 0} (d : A) (f : B → ℕ → A → B) (step : B → ℕ → B) (a : ℕ) (xs : List A) → ((k : ℕ) → k < length xs → (b : B) → step b (a + k) ≡ f b (a + k) (get_or xs k d)) → (b : B) → fold step b (range_with_len a (length xs)) ≡ fold (λ b p. f b p.0 p.1) b (enumerate_from a xs)
-fold_from d f step a [] same b = refl
-fold_from d f step a (x ∷ xs) same b =
-    let here : step b a ≡ f b a x = ap (step b) (sym (add-zero a)) ∙ same 0 (omega arith) b ∙ ap (λ k. f b k x) (add-zero a) in
-    ap (λ c. fold step c (range_with_len (a + 1) (length xs))) here
-    ∙ fold_from d f step (a + 1) xs
-    (λ k below c. let e : a + 1 + k ≡ a + suc k = omega arith in ap (step c) e ∙ same (suc k) (omega arith) c ∙ ap (λ j. f c j (get_or xs k d)) (sym e))
-    (f b a x)
-
--- a fold over the places
-pub fold-table : {A B : Type 0} (d : A) (f : B → ℕ → A → B) (xs : List A) (n : ℕ) (b : B) → length xs ≡ n → fold (λ b k. f b k (get_or xs k d)) b (range_with_len 0 n) ≡ fold (λ b p. f b p.0 p.1) b (enumerate_from 0 xs)
-fold-table {A} {B} d f xs n b all =
-    let step : B → ℕ → B = λ b k. f b k (get_or xs k d) in
-    ap (λ m. fold step b (range_with_len 0 m)) (sym all)
-    ∙ fold_from d f step 0 xs (λ k below b. ap (λ j. f b (0 + k) (get_or xs j d)) (let e : 0 + k ≡ k = omega arith in e)) b
 
 -- a loop that lists the places that pass has come one further
 pub listed_more : (test : ℕ → Bool) (n : ℕ) (row next : List ℕ) (passes : Bool) → row ≡ filter test (range_with_len 0 n) → test n ≡ passes → next ≡ row ++ cond passes (n ∷ []) [] → next ≡ filter test (range_with_len 0 (n + 1))

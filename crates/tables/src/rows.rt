@@ -76,10 +76,11 @@ impl Rows {
         ensures best { result ≡ best_serving desktop class (rows_of self.now) }
         ensures serves { (f : ℕ) (row : Row) → result ≡ Some (f, row) → row_serves desktop class row ≡ true }
     {
-        self.table.iter().enumerate().fold(
-            None,
-            |best, (frame, row)| better(class, frame as u32, *row, best),
-        )
+        let mut best = None;
+        for (frame, row) in self.table.iter().enumerate() {
+            best = better(class, frame as u32, *row, best);
+        }
+        best
     }
 
     // The frames of a class, in rising number.
