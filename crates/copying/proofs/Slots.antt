@@ -1,11 +1,16 @@
 -- A slot that is copied, and the loop that copies slots.
-use Rattle.std.proofs.Common.{◌≡◌, ℕ, ◌+◌, ◌*◌, ◌<◌, ◌≤◌, true, false, List, [], Result, sym, ap, ◌∙◌}
+use Rattle.std.proofs.Common.{◌≡◌, ℕ, ◌+◌, ◌*◌, ◌<◌, ◌≤◌, true, false, List, [], Result, take, replicate, sym, ap, ◌∙◌}
+use Rattle.std.proofs.lemmas.List.{take-replicate}
 use Rattle.refusal.specs.declared.Refusal.{Refusal}
 use Rattle.bank.specs.Model.{BankState}
 use Rattle.model.specs.Geometry.{desktop, slot_size, places}
 use Rattle.model.specs.Masks.{bit, set_places}
 use Rattle.model.specs.Mesh.{copied, copied_then, copies}
 use Rattle.model.proofs.Places.{passing, passing_all, passing_yes, passing_no, passing-end}
+
+-- the front of a row of one element
+pub front_of : {A : Type 0} (n : ℕ) (x : A) → n ≤ 1024 → take n (replicate 1024 x) ≡ replicate n x
+front_of n x within = take-replicate n 1024 x within
 
 -- the loop that copies the slots of a mask
 module _ (size f h mask : ℕ) where

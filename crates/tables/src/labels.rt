@@ -39,7 +39,10 @@ impl Labels {
     pub fn live(&self) -> u32
         ensures { result ≡ tally desktop.labels (λ l. is_some (labels_of self.now l)) }
     {
-        self.table.iter().filter(|patch| patch.is_some()).count() as u32
+        self.table
+            .iter()
+            .map(|patch| u32::from(patch.is_some()))
+            .sum()
     }
 
     // The lowest label whose patch holds so many bytes from the address on.

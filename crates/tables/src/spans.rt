@@ -79,7 +79,10 @@ impl Spans {
     pub fn taken(&self) -> u32
         ensures { result ≡ tally desktop.spans (λ h. not (idle (spans_of self.now h))) }
     {
-        self.table.iter().filter(|span| !is_idle(span)).count() as u32
+        self.table
+            .iter()
+            .map(|span| u32::from(!is_idle(span)))
+            .sum()
     }
 
     // The source frame was laid onto the destination: its home and its aliases become aliases of the destination.
