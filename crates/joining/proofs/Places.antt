@@ -14,7 +14,7 @@ over join (x ∷ xs) (y ∷ ys) = unwrap_or (join x y) x ∷ over join xs ys
 
 module _ {X : Type 0} where
   -- a row that was put together has both parts
-  parted : (o : Option X) (p : Option (List X)) (r : List X) → before o p ≡ Some r
+  pub parted : (o : Option X) (p : Option (List X)) (r : List X) → before o p ≡ Some r
       → (x : X) × (xs : List X) × (o ≡ Some x) × (p ≡ Some xs) × (r ≡ x ∷ xs)
   parted (Some x) (Some xs) r e = (x, xs, refl, refl, cc)
   parted (Some x) None r e = absurd (let z : ◌≡◌ {A = ℕ} 0 1 = cc in omega arith)
@@ -98,7 +98,7 @@ module _ {X : Type 0} where
         ∙ sym (before_test o (rows join (drop (i + 1) xs) (drop (i + 1) ys)) joins)
 
     -- where the rows join, what is written over the first is the join
-    over_joined : (xs ys r : List X) → rows join xs ys ≡ Some r → over join xs ys ≡ r
+    pub over_joined : (xs ys r : List X) → rows join xs ys ≡ Some r → over join xs ys ≡ r
     over_joined [] [] r e = cc
     over_joined [] (y ∷ ys) r e = absurd (let z : ◌≡◌ {A = ℕ} 0 1 = cc in omega arith)
     over_joined (x ∷ xs) [] r e = absurd (let z : ◌≡◌ {A = ℕ} 0 1 = cc in omega arith)
@@ -106,12 +106,12 @@ module _ {X : Type 0} where
         let p = parted (join x y) (rows join xs ys) r e in
         ap₂ (λ a rest. a ∷ rest) (ap (λ o. unwrap_or o x) p.2) (over_joined xs ys p.1 p.3) ∙ sym p.4
 
-    length_over : (xs ys : List X) → length (over join xs ys) ≡ length xs
+    pub length_over : (xs ys : List X) → length (over join xs ys) ≡ length xs
     length_over [] ys = refl
     length_over (x ∷ xs) [] = refl
     length_over (x ∷ xs) (y ∷ ys) = ap suc (length_over xs ys)
 
-    over_at : (xs ys : List X) (i : ℕ) (d e f : X) → i < length xs → i < length ys
+    pub over_at : (xs ys : List X) (i : ℕ) (d e f : X) → i < length xs → i < length ys
         → get_or (over join xs ys) i f ≡ unwrap_or (join (get_or xs i d) (get_or ys i e)) (get_or xs i d)
     over_at [] ys i d e f hx hy = absurd (omega arith)
     over_at (x ∷ xs) [] i d e f hx hy = absurd (omega arith)
@@ -119,7 +119,7 @@ module _ {X : Type 0} where
     over_at (x ∷ xs) (y ∷ ys) (suc i) d e f hx hy = over_at xs ys i d e f (omega arith) (omega arith)
 
   -- a row that is written anew up to i, one place on
-  anew_more : (new old : List X) (i : ℕ) (v : X) → i < length new → i < length old → v ≡ get_or new i v
+  pub anew_more : (new old : List X) (i : ℕ) (v : X) → i < length new → i < length old → v ≡ get_or new i v
       → set (take i new ++ drop i old) i v ≡ take (i + 1) new ++ drop (i + 1) old
   anew_more new old i v in-new in' is =
       ap (λ rest. set (take i new ++ rest) i v) (drop_more old i v in')

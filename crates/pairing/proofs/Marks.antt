@@ -5,17 +5,22 @@ use Rattle.std.proofs.lemmas.Bool.Decides.{nat_tests}
 use Rattle.std.proofs.lemmas.Grind.{common_steps}
 use Rattle.std.specs.List.{range_with_len}
 use Rattle.pairing.specs.declared.pairs.Pair.{Pair}
-use Rattle.pairing.specs.Pairs.{paired, with_pair, Fair, Lawful}
+use Rattle.pairing.specs.Pairs.{paired, accepted, with_pair, Fair, Lawful}
 use Rattle.pairing.specs.Found.{Found, Sound}
 use Rattle.pairing.specs.Folds.{folded_counting_more}
 use Rattle.pairing.specs.Law.{paired_push, lawful_none, lawful_more, pairs_few, pairs_room}
 
-marks_more : (marks : List Bool) (ps : List Pair) (i j : ℕ) → i < length marks → j < length marks
-    → ((k : ℕ) → k < 64 → get_or marks k false ≡ paired k ps)
-    → (k : ℕ) → k < 64 → get_or (set (set marks i true) j true) k false ≡ paired k (with_pair ps i j)
-marks_more marks ps i j hi hj are k h =
-    let more : paired k (with_pair ps i j) ≡ (paired k ps || (eqb k i || eqb k j)) = paired_push k ps (record { left = i; right = j }) in
+-- with one pair more, and both its places marked, all marks are as the pairs say
+pub marks_more : (marks : List Bool) (ps ps' : List Pair) (i j : ℕ) → i < length marks → j < length marks
+    → ((k : ℕ) → k < 64 → get_or marks k false ≡ paired k ps) → ps' ≡ with_pair ps i j
+    → (k : ℕ) → k < 64 → get_or (set (set marks i true) j true) k false ≡ paired k ps'
+marks_more marks ps ps' i j hi hj are e k h =
+    let more : paired k ps' ≡ (paired k ps || (eqb k i || eqb k j)) = ap (paired k) e ∙ paired_push k ps (record { left = i; right = j }) in
     let was = are k h in grind (arith, nat_tests, common_steps)
+
+-- what is accepted has at most 64 masks
+pub accepted_few : (n room : ℕ) → accepted n room ≡ true → n ≤ 64
+accepted_few n room is = grind (arith, nat_tests, common_steps)
 
 -- no pair is found yet
 pub sound_none : (ms : List ℕ) (ps : List Pair) → length ms ≤ 64 → ps ≡ [] → Sound ms ps (replicate 64 false)
@@ -49,8 +54,8 @@ module _ {f g : Found} {marks : List Bool} {i j : ℕ} (is : g ≡ f) (sound : S
         few = sound.few;
         lawful = lawful_pair;
         places = length-set (set marks i true) j true ∙ length-set marks i true ∙ sound.places;
-        marked = marks_more marks g.pairs i j (omega (arith, long, sound.few, sound.places, fair.left_below))
-            (omega (arith, long, sound.few, sound.places, fair.right_below)) sound.marked;
+        marked = marks_more marks g.pairs (with_pair g.pairs i j) i j (omega (arith, long, sound.few, sound.places, fair.left_below))
+            (omega (arith, long, sound.few, sound.places, fair.right_below)) sound.marked refl;
       })
 
 -- a buffer for half as many pairs as there are masks has room for all

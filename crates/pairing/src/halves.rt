@@ -1,5 +1,5 @@
 // SplitMesher: two halves of the shuffled places, offered to one another.
-ghost use Rattle.std.specs.Prelude.{◌≡◌, ◌/◌, ◌≤◌, length};
+ghost use Rattle.std.specs.Prelude.{◌≡◌, ◌+◌, ◌/◌, ◌%◌, ◌^◌, ◌<◌, ◌≤◌, length};
 ghost use Rattle.draws.specs.Draws.{begun};
 ghost use Rattle.pairing.specs.Halves.{pass, shuffled_places, split_pairs, split_next, Order};
 ghost use Rattle.pairing.specs.Split.{split_lawful};
@@ -57,9 +57,20 @@ fn offer_pass(found: &mut Proposal, order: &[u8], shift: u8)
 {
     let (left, right) = order.split_at(order.len() / 2);
     for (j, &place) in left.iter().enumerate() {
-        let other = right[(j + usize::from(shift)) % left.len()];
+        let other = right[place_on(j, shift, left.len())];
         found.offer(usize::from(place), usize::from(other));
     }
+}
+
+// The place that stands `shift` places on from the place j, in a half that goes round. (By itself, so that a wrong one is
+// refused at its own line.)
+fn place_on(j: usize, shift: u8, half: usize) -> usize
+    requires within { j < half }
+    requires few { half < 2 ^ 63 }
+    ensures place { result ≡ (j + shift) % half }
+    ensures below { result < half }
+{
+    (j + usize::from(shift)) % half
 }
 
 // The first n places in the order that the draws shuffle them into.

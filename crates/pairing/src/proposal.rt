@@ -1,5 +1,5 @@
 // A proposal in the making: the pairs found so far.
-ghost use Rattle.std.specs.Prelude.{◌≡◌, ◌+◌, ◌/◌, ◌<◌, ◌≤◌, not, [], length, ◌≢◌, false, if◌then◌else◌, Ok, Err};
+ghost use Rattle.std.specs.Prelude.{◌≡◌, ◌+◌, ◌/◌, ◌<◌, ◌≤◌, not, [], length, set, ◌≢◌, true, false, if◌then◌else◌, Ok, Err};
 ghost use Rattle.refusal.specs.declared.Refusal.TheVariants.{Row};
 ghost use Rattle.joining.specs.Kinds.{masks_join};
 ghost use Rattle.pairing.specs.Pairs.{paired, takes, offered, accepted, written_over, with_pair, Fair};
@@ -40,7 +40,7 @@ impl<'a> Proposal<'a> {
     pub(crate) fn new(masks: &'a [u64], room: usize) -> Result<Proposal<'a>, Refusal>
         ensures { result ≡ (if accepted (length masks.now) room then Ok (record { masks = masks.now; pairs = [] }) else Err Row) }
     {
-        if masks.len() <= MOST_MASKS && masks.len() / 2 <= room {
+        if is_accepted(masks, room) {
             Ok(Proposal {
                 masks,
                 pairs: ArrayVec::new(),
@@ -58,12 +58,8 @@ impl<'a> Proposal<'a> {
         requires free { (paired left self.old.pairs ≡ false) × (paired right self.old.pairs ≡ false) }
         ensures { self.new ≡ record self.old { pairs = with_pair self.old.pairs left right } }
     {
-        self.pairs.push(Pair {
-            left: left as u8,
-            right: right as u8,
-        });
-        self.marks[left] = true;
-        self.marks[right] = true;
+        self.pairs.push(pair_of(left, right));
+        mark(&mut self.marks, left, right);
     }
 
     // Whether a place is unpaired.
@@ -113,6 +109,34 @@ impl<'a> Proposal<'a> {
         buffer[..count].copy_from_slice(&self.pairs);
         count
     }
+}
+
+// Whether there are not too many masks, and room for half as many pairs. (This function and the next two stand by
+// themselves, so that a wrong test, pair or mark is refused at its own line.)
+fn is_accepted(masks: &[u64], room: usize) -> bool
+    ensures { result ≡ accepted (length masks.now) room }
+{
+    masks.len() <= MOST_MASKS && masks.len() / 2 <= room
+}
+
+// The pair of two places.
+fn pair_of(left: usize, right: usize) -> Pair
+    requires { (left < 64) × (right < 64) }
+    ensures { result ≡ record { left = left; right = right } }
+{
+    Pair {
+        left: left as u8,
+        right: right as u8,
+    }
+}
+
+// Marks two places.
+fn mark(marks: &mut [bool; MOST_MASKS], left: usize, right: usize)
+    requires { (left < 64) × (right < 64) }
+    ensures { marks.new ≡ set (set marks.old left true) right true }
+{
+    marks[left] = true;
+    marks[right] = true;
 }
 
 // Whether two masks join, by the joining of rows: each is a row of one word.

@@ -45,7 +45,7 @@ decoded_fits [] = tt
 decoded_fits (letter ∷ bytes) =
     lettered-holds bytes (λ c. 1 + operands c ≤ length (letter ∷ bytes)) letter (λ h. omega arith) (λ h. omega arith) (λ h. omega arith) (λ h. omega arith) (λ h. omega arith) (λ h. omega arith) (λ h. omega arith) (omega arith)
 
-decoded-long : (bytes : List ℕ) (command : Command) → decoded bytes ≡ Ok command → 1 + operands command ≤ length bytes
+pub decoded-long : (bytes : List ℕ) (command : Command) → decoded bytes ≡ Ok command → 1 + operands command ≤ length bytes
 decoded-long bytes command is = IfOk-at_ok (λ c. 1 + operands c ≤ length bytes) is (decoded_fits bytes)
 
 -- the label of a decoded command is one byte
