@@ -89,8 +89,8 @@ fn copy_slot<B: Bank>(
 }
 
 // The same, by way of rows for the bytes and for the cells of both slots. (They are lent, as fronts of arrays: rows that
-// are answered as `ArrayVec`s are made, cleared and moved whole for each slot, however short it is, and a merge took up
-// to four times as long; `ArrayVec`s that are used again from slot to slot took up to 1.9 times as long (both tried).)
+// are answered as `ArrayVec`s are made, cleared and moved whole for each slot, however short it is, and short slots took
+// four times as long; `ArrayVec`s that are used again from slot to slot took up to 1.9 times as long (both tried).)
 fn copy_through<B: Bank>(
     bank: &mut B,
     from: u32,
