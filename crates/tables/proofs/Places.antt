@@ -1,10 +1,15 @@
 -- What the definitions that go over the numbers of places say of a whole table.
-use Rattle.std.proofs.Common.{◌≡◌, ℕ, zero, suc, ◌+◌, ◌<◌, ◌≤◌, Bool, true, false, cond, List, [], ◌∷◌, ◌++◌, length, get_or, take, Some, sym, refl, ap, ◌∙◌, subst, add-one, add-zero, arith}
+use Rattle.std.proofs.Common.{◌≡◌, ℕ, zero, suc, ◌+◌, ◌^◌, ◌<◌, ◌≤◌, Bool, true, false, cond, List, [], ◌∷◌, ◌++◌, map, fold, length, get_or, take, Some, Option, sym, refl, ap, ◌∙◌, subst, add-one, add-zero, arith}
+use Rattle.std.specs.Bool.{⊤}
+use Rattle.std.specs.Iterator.{Drains}
+use Rattle.std.specs.Iterator.Runs.{EachRunFrom}
 use Rattle.std.specs.List.{range_with_len, filter, count_by, position, position_from}
 use Rattle.std.proofs.lemmas.List.{take_all}
 use Rattle.std.proofs.lemmas.List.Filters.{length-filter_more}
-use Rattle.std.proofs.lemmas.List.Sums.{length-filter}
+use Rattle.std.proofs.lemmas.List.Sums.{length-filter, count_by-le-length}
+use Rattle.std.proofs.lemmas.Iterator.{YieldsList}
 use Rattle.std.proofs.lemmas.Iterator.Adapters.{position_from-zero}
+use Rattle.std.proofs.lemmas.Iterator.Consumers.{sum_by_from_yields_List, fits_by_from_yields_list}
 use Rattle.model.specs.Calls.{tally, first_of}
 use Rattle.model.proofs.Places.{tally_more, tally-none, kept_more}
 
@@ -25,6 +30,18 @@ tally-table d test xs n all =
     tally_front d test xs n (omega arith)
     ∙ ap (λ ys. length (filter test ys)) (take_all n xs (omega arith))
     ∙ length-filter test xs
+
+-- a chain that gives 1 for each place that passes, and 0 for each other: its sum fits a number of 32 bits, and is how many pass
+module _ {S A : Type 0} {steps : S → Option ℕ → S → Type 0} {s : S} (test : A → Bool) (xs : List A)
+    (road : YieldsList steps (λ x. x) s (map (λ x. cond (test x) 1 0) xs)) where
+  pub tally-fits : length xs < 2 ^ 32 → EachRunFrom steps s (λ p. fold (λ a x. a + x) 0 p.items < 2 ^ 32)
+  tally-fits few =
+      let most = count_by-le-length test xs in
+      fits_by_from_yields_list (λ x. cond (test x) 1 0) xs s (2 ^ 32) road (omega (arith, most, few))
+
+  pub tally-sum : (d : A) (n r : ℕ) → length xs ≡ n → ((ys : List ℕ) × (⊤ → Drains steps s ys) × (r ≡ fold (λ a x. a + x) 0 ys))
+      → r ≡ tally n (λ k. test (get_or xs k d))
+  tally-sum d n r all ran = sum_by_from_yields_List (λ x. cond (test x) 1 0) xs s r ran road ∙ sym (tally-table d test xs n all)
 
 first_of-cond : (b : Bool) (n : ℕ) (rest : List ℕ) → first_of (cond b (n ∷ rest) rest) ≡ cond b (Some n) (first_of rest)
 first_of-cond true n rest = refl

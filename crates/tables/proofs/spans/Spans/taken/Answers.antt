@@ -1,26 +1,20 @@
-use Rattle.std.proofs.Common.{◌≡◌, ◌<◌, ◌^◌, cond, not, length, arith, rules, tests, sym, ◌∙◌}
-use Rattle.std.specs.List.{count_by}
-use Rattle.std.proofs.lemmas.List.Sums.{count_by-le-length}
+use Rattle.std.proofs.Common.{◌≡◌, not, length, arith, rules, tests}
 use Rattle.std.proofs.lemmas.Iterator.{YieldsList-from_slice, YieldsList-from_map}
-use Rattle.std.proofs.lemmas.Iterator.Consumers.{YieldsList-at, sum_by_from_yields_List, fits_by_from_yields_list}
+use Rattle.std.proofs.lemmas.Iterator.Consumers.{YieldsList-at}
 use Rattle.model.specs.declared.Span.TheVariants.{Idle}
 use Rattle.model.specs.State.{is_idle}
-use Rattle.tables.proofs.Places.{tally-table}
+use Rattle.tables.proofs.Places.{tally-fits, tally-sum}
 use Rattle.tables.proofs.spans.Spans.taken.Goals as goal
 
 pub sum-requires-clause-fits : goal.sum-requires-clause-fits
 sum-requires-clause-fits c =
-    let table = c.args.self.now.table in
-    let few : count_by (λ span. not (is_idle span)) table < 2 ^ 32 =
-    let most = count_by-le-length (λ span. not (is_idle span)) table in omega (arith, most) in
-    fits_by_from_yields_list (λ span. cond (not (is_idle span)) 1 0) table c.map.result (2 ^ 32)
-    (YieldsList-from_map _ _ (YieldsList-at c.map.ensures.source (YieldsList-from_slice table cc)) c.map.ensures.closure (λ x r q k. search (rules, tests)))
-    few
+    tally-fits (λ span. not (is_idle span)) c.args.self.now.table
+    (YieldsList-from_map _ _ (YieldsList-at c.map.ensures.source (YieldsList-from_slice _ cc)) c.map.ensures.closure (λ x r q k. search (rules, tests)))
+    (omega arith)
 
 pub returns : goal.returns
 returns c =
-    let table = c.args.self.now.table in
-    let all : length table ≡ 128 = omega arith in
-    sum_by_from_yields_List (λ span. cond (not (is_idle span)) 1 0) table c.map.result c.sum.result c.sum.ensures.ran
-    (YieldsList-from_map _ _ (YieldsList-at c.map.ensures.source (YieldsList-from_slice table cc)) c.map.ensures.closure (λ x r q k. search (rules, tests)))
-    ∙ sym (tally-table Idle (λ span. not (is_idle span)) table 128 all)
+    let all : length c.args.self.now.table ≡ 128 = omega arith in
+    tally-sum (λ span. not (is_idle span)) c.args.self.now.table
+    (YieldsList-from_map _ _ (YieldsList-at c.map.ensures.source (YieldsList-from_slice _ cc)) c.map.ensures.closure (λ x r q k. search (rules, tests)))
+    Idle 128 c.sum.result all c.sum.ensures.ran
